@@ -1,0 +1,5 @@
+pub mod Choice
+pub mod Cell
+pub mod Operator
+pub mod Row
+pub mod Condition

@@ -1,0 +1,45 @@
+-- Operators and outcomes: document 01, "Conditions". Assumes nothing.
+use mathlib.Core.Bool.{Bool, true, false, not, _&&_}
+use mathlib.Core.List.{List, [], _∷_}
+use Prim.Native.Nat.{ℕ}
+use lib.IntN.{ℤ}
+use lib.ListN.{getD}
+use lib.Signed.{ltZ, leZ}
+use Rattle.cells.specs.Choice.{if_then_else_}
+use Rattle.cells.specs.Cell.{eqZ, isBlank}
+use Rattle.cells.specs.declared.operator.Outcome.{Outcome}
+use Rattle.cells.specs.declared.operator.Outcome.the-variants.{Less, Equal, Greater}
+
+-- the outcomes less, equal, greater: the number of each is its column in the table of operators
+unfoldable pub columnOf : Outcome → ℕ
+columnOf Less = 0
+columnOf Equal = 1
+columnOf Greater = 2
+
+-- how two numbers compare
+unfoldable pub outcomeOf : ℤ → ℤ → Outcome
+outcomeOf x y = if ltZ x y then Less else if ltZ y x then Greater else Equal
+
+-- what is true of no numbers: a code that is no operator's
+unfoldable pub never : ℤ → ℤ → Bool
+never x y = false
+
+-- what each operator says of two numbers, by its code: `<` 1, `=` 2, `<=` 3, `>` 4, `<>` 5, `>=` 6
+unfoldable pub operators : List (ℤ → ℤ → Bool)
+operators =
+    never
+    ∷ (λ x y. ltZ x y)
+    ∷ (λ x y. eqZ x y)
+    ∷ (λ x y. leZ x y)
+    ∷ (λ x y. ltZ y x)
+    ∷ (λ x y. not (eqZ x y))
+    ∷ (λ x y. leZ y x)
+    ∷ []
+
+-- whether an operator, by its code, is true of two numbers
+unfoldable pub says : ℕ → ℤ → ℤ → Bool
+says op x y = getD operators op never x y
+
+-- a condition on two cells: "if either cell is blank, the condition is not true, `<>` included"
+unfoldable pub holds : ℕ → ℤ → ℤ → Bool
+holds op x y = not (isBlank x) && not (isBlank y) && says op x y
