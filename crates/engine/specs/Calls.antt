@@ -1,0 +1,100 @@
+-- A call of the engine or of the direct reading, for any arguments: its answer, and all lent memory afterwards. Document 01,
+-- "Questions, in order". Assumes nothing.
+use mathlib.Core.Bool.{Bool, true, false, _&&_}
+use mathlib.Core.List.{List, [], _∷_, _++_, flatMap}
+use Prim.Native.Nat.{ℕ, _-_}
+use lib.Dec.{leb}
+use lib.IntN.{ℤ, pos}
+use lib.ListN.{length, drop, replicate}
+use Rattle.cells.specs.Row.{Row}
+use Rattle.plan.specs.Steps.{zeroStep}
+use Rattle.plan.specs.declared.step.Step.{Step}
+use Rattle.text.specs.Bytes.{Bytes}
+use Rattle.engine.specs.Answers.{Outcome, refused, answered, ReportAnswer, reportOutcome, directOutcome}
+use Rattle.engine.specs.declared.answer.Answer.{Answer}
+use Rattle.engine.specs.declared.answer.Answer.the-variants.{Rows, Refused}
+
+-- what is lent to a call: the cell run, the work buffer and the result buffer
+pub record Lent : Type 0 where
+  pub cells : List ℤ
+  pub work : List ℕ
+  pub result : List ℕ
+
+-- 1, without the step list: "Has the work buffer at least 16,384 and the result buffer at least 2,048 16-bit numbers, the cell
+-- run at least 4,096 numbers ..?"
+unfoldable pub question1Direct : Lent → Bool
+question1Direct m = leb 16384 (length (m .work)) && leb 2048 (length (m .result)) && leb 4096 (length (m .cells))
+
+-- 1: ".. and the step list (not lent for the direct reading) at least 16 steps?"
+unfoldable pub question1 : Lent → List Step → Bool
+question1 m steps = question1Direct m && leb 16 (length steps)
+
+-- "writes rows × tables numbers, row after row; the rest of the result buffer keeps its contents"
+unfoldable pub written : List Row → List ℕ → List ℕ
+written rows result = let numbers : List ℕ = flatMap (λ (row : Row). row) rows in numbers ++ drop (length numbers) result
+
+-- lent memory after a call that question 1 did not turn down: "the work buffer and the cell run end filled with 0"
+unfoldable pub cleared : Lent → List ℕ → Lent
+cleared m result = record {
+  cells = replicate (length (m .cells)) (pos 0);
+  work = replicate (length (m .work)) 0;
+  result = result;
+}
+
+-- "the step list holds an answer's plan and then zero steps, or after a refusal zero steps only"
+unfoldable pub laidOut : List Step → ℕ → List Step
+laidOut plan n = plan ++ replicate (n - length plan) zeroStep
+
+-- ---- the engine
+
+-- the answer of a call, each table's set as bits (a table that there is not: none), lent memory and the step list afterwards
+pub record ReportCall : Type 0 where
+  pub answer : Answer
+  pub sets : List ℕ
+  pub lent : Lent
+  pub steps : List Step
+
+unfoldable pub noSets : List ℕ
+noSets = replicate 8 0
+
+-- a call that question 1 did not turn down
+unfoldable pub reportAfter : Outcome ReportAnswer → Lent → List Step → ReportCall
+reportAfter (refused n) m steps = record {
+  answer = Refused n;
+  sets = noSets;
+  lent = cleared m (m .result);
+  steps = laidOut [] (length steps);
+}
+reportAfter (answered a) m steps = record {
+  answer = Rows (length (a .rows));
+  sets = a .sets ++ drop (length (a .sets)) noSets;
+  lent = cleared m (written (a .rows) (m .result));
+  steps = laidOut (a .steps) (length steps);
+}
+
+-- a call of the engine: "After 1 all lent memory is untouched"
+unfoldable pub reportCall : Bytes → Lent → List Step → ReportCall
+reportCall text m steps =
+    elim (question1 m steps) [
+      | true ↦ reportAfter (reportOutcome text) m steps
+      | false ↦ record { answer = Refused 1; sets = noSets; lent = m; steps = steps }
+    ]
+
+-- ---- the direct reading
+
+-- the answer of a call, and lent memory afterwards
+pub record DirectCall : Type 0 where
+  pub answer : Answer
+  pub lent : Lent
+
+unfoldable pub directAfter : Outcome (List Row) → Lent → DirectCall
+directAfter (refused n) m = record { answer = Refused n; lent = cleared m (m .result) }
+directAfter (answered rows) m = record { answer = Rows (length rows); lent = cleared m (written rows (m .result)) }
+
+-- a call of the direct reading
+unfoldable pub directCall : Bytes → Lent → DirectCall
+directCall text m =
+    elim (question1Direct m) [
+      | true ↦ directAfter (directOutcome text) m
+      | false ↦ record { answer = Refused 1; lent = m }
+    ]

@@ -1,0 +1,2 @@
+// The two exported routines, the report and the direct reading, and their print.
+pub mod answer;

@@ -1,0 +1,6 @@
+pub mod Report
+pub mod Nodes
+pub mod Sets
+pub mod Plan
+pub mod Steps
+pub mod Questions

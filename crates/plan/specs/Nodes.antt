@@ -1,0 +1,61 @@
+-- Nodes: document 01, "Report text". "With n tables, nodes 0 to n-1 are tables and the i-th J (from 0) is node n+i"; the pairs
+-- of an order number their nodes the same way. Assumes nothing.
+use mathlib.Core.List.{List, [], _∷_, _++_, map}
+use Prim.Native.Nat.{ℕ, _-_}
+use lib.ListN.{length, getD}
+use Rattle.rows.specs.Lists.{range}
+use Rattle.rows.specs.Trees.{Tree, leaf, join}
+use Rattle.plan.specs.Report.{Join, Pair, Query, tableCount, tableNumbers, joinPairs, joinOrder}
+
+-- ---- the tables under each node
+
+-- the tables under a node; a node that there is not has none
+unfoldable pub tablesAt : List (List ℕ) → ℕ → List ℕ
+tablesAt nodes i = getD nodes i []
+
+-- each pair makes a node of the tables under its two nodes
+unfoldable pub withPairs : List (List ℕ) → List Pair → List (List ℕ)
+withPairs nodes [] = nodes
+withPairs nodes (p ∷ ps) = withPairs (nodes ++ ((tablesAt nodes (p .0) ++ tablesAt nodes (p .1)) ∷ [])) ps
+
+-- the tables under every node that these pairs make
+unfoldable pub nodesOf : Query → List Pair → List (List ℕ)
+nodesOf q ps = withPairs (map (λ t. t ∷ []) (tableNumbers q)) ps
+
+-- the nodes of the J lines
+unfoldable pub joinNodes : Query → List (List ℕ)
+joinNodes q = nodesOf q (joinPairs q)
+
+-- the nodes of the joining order
+unfoldable pub orderNodes : Query → List (List ℕ)
+orderNodes q = nodesOf q (joinOrder q)
+
+-- ---- the tree of each node
+
+-- the tree of a node
+unfoldable pub treeAt : List (Tree ℕ) → ℕ → Tree ℕ
+treeAt trees i = getD trees i (leaf 0)
+
+-- the tree of a join, over the trees of the nodes before it
+unfoldable pub treeOf : List (Tree ℕ) → Join → Tree ℕ
+treeOf trees j = join (j .kind) (j .conditions) (treeAt trees (j .left)) (treeAt trees (j .right))
+
+-- each join makes a node
+unfoldable pub withJoins : List (Tree ℕ) → List Join → List (Tree ℕ)
+withJoins trees [] = trees
+withJoins trees (j ∷ js) = withJoins (trees ++ (treeOf trees j ∷ [])) js
+
+-- the trees of every node that these joins make
+unfoldable pub treesOf : Query → List Join → List (Tree ℕ)
+treesOf q js = withJoins (map leaf (tableNumbers q)) js
+
+-- the last node's tree: the whole (of a lone table, the table)
+unfoldable pub lastTree : List (Tree ℕ) → Tree ℕ
+lastTree trees = treeAt trees (length trees - 1)
+
+-- the tree of the J lines
+unfoldable pub joinTrees : Query → List (Tree ℕ)
+joinTrees q = treesOf q (q .joins)
+
+unfoldable pub joinTree : Query → Tree ℕ
+joinTree q = lastTree (joinTrees q)

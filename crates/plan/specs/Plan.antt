@@ -1,0 +1,95 @@
+-- The plan: document 01, "The plan". Assumes nothing.
+use mathlib.Core.Path.{_≡_}
+use mathlib.Core.Logic.{_≢_}
+use mathlib.Core.Bool.{Bool, true, false, not, _&&_, _||_}
+use mathlib.Core.List.{List, [], _∷_, map}
+use Prim.Native.Nat.{ℕ, _<_}
+use lib.Dec.{T}
+use Rattle.cells.specs.declared.condition.Condition.{Condition}
+use Rattle.cells.specs.declared.condition.Side.{Side}
+use Rattle.cells.specs.declared.condition.Side.the-variants.{Column, Constant}
+use Rattle.rows.specs.Lists.{all, keep, has}
+use Rattle.rows.specs.Trees.{Tree}
+use Rattle.rows.specs.Nullification.{Blanking}
+use Rattle.rows.specs.declared.kind.Kind.the-variants.{Inner, Outer, Product}
+use Rattle.plan.specs.Report.{Join, Pair, Query, tableNumbers, conditionNumbers, conditionAt, joinOrder}
+use Rattle.plan.specs.Nodes.{tablesAt, orderNodes, treesOf, lastTree}
+use Rattle.plan.specs.Sets.{Sets, setOf, setsBy, emptySets, blankingSets}
+
+-- ---- pairs
+
+-- whether a condition is a C line that names one table under each of two nodes
+unfoldable pub between : ℕ → Side → List ℕ → List ℕ → Bool
+between t (Column u c) s l = has s t && has l u || has l t && has s u
+between t (Constant z) s l = false
+
+unfoldable pub crosses : Condition → List ℕ → List ℕ → Bool
+crosses k s l = between (k .table) (k .side) s l
+
+-- whether a condition is in the set of every one of these tables
+unfoldable pub inEvery : Sets → List ℕ → ℕ → Bool
+inEvery S ts k = all (λ t. has (setOf S t) k) ts
+
+-- the usable conditions of a pair: "C lines naming one table under each, which are in the set of every table under s, or of every
+-- table under l"
+unfoldable pub usable : Query → Sets → List ℕ → List ℕ → List ℕ
+usable q S s l = keep (λ k. crosses (conditionAt q k) s l && (inEvery S s k || inEvery S l k)) (conditionNumbers q)
+
+-- how a pair is joined, given its usable conditions and whether all of them are in s's sets, and in l's. "None: outer product ..
+-- All in both: inner. All in l's: outer, s preserved. All in s's: outer, l preserved." What fits none of these is refused by
+-- question 10, and stands here as a product
+unfoldable pub paired : ℕ → ℕ → List ℕ → Bool → Bool → Join
+paired s l [] inS′ inL = record { kind = Product; left = s; right = l; conditions = [] }
+paired s l (k ∷ C) true true = record { kind = Inner; left = s; right = l; conditions = k ∷ C }
+paired s l (k ∷ C) false true = record { kind = Outer; left = s; right = l; conditions = k ∷ C }
+paired s l (k ∷ C) true false = record { kind = Outer; left = l; right = s; conditions = k ∷ C }
+paired s l (k ∷ C) false false = record { kind = Product; left = s; right = l; conditions = [] }
+
+-- whether the usable conditions fit one of the four kinds
+unfoldable pub fitsKind : List ℕ → Bool → Bool → Bool
+fitsKind [] inS′ inL = true
+fitsKind (k ∷ C) inS′ inL = inS′ || inL
+
+module _ (q : Query) where
+  -- the usable conditions of a pair of the order
+  unfoldable pub usableAt : Pair → List ℕ
+  usableAt p = usable q (blankingSets q) (tablesAt (orderNodes q) (p .0)) (tablesAt (orderNodes q) (p .1))
+
+  -- whether all of a pair's usable conditions are in the sets of every table under a node
+  unfoldable pub allIn : Pair → ℕ → Bool
+  allIn p i = all (inEvery (blankingSets q) (tablesAt (orderNodes q) i)) (usableAt p)
+
+  -- a pair of the order as the plan joins it
+  unfoldable pub planned : Pair → Join
+  planned p = paired (p .0) (p .1) (usableAt p) (allIn p (p .0)) (allIn p (p .1))
+
+  -- the pairs of the plan, as given
+  unfoldable pub plannedJoins : List Join
+  plannedJoins = map planned (joinOrder q)
+
+  -- the trees of the order's nodes
+  unfoldable pub planTrees : List (Tree ℕ)
+  planTrees = treesOf q plannedJoins
+
+  -- the tree that the pairs make
+  unfoldable pub planTree : Tree ℕ
+  planTree = lastTree planTrees
+
+  -- "The same set rule over the pairs gives the applied sets (a product adds nothing)"
+  unfoldable pub appliedSets : Sets
+  appliedSets = setsBy q (orderNodes q) plannedJoins (emptySets q)
+
+  -- ---- blanking steps
+
+  -- the missing conditions of a table: in its set, not in its applied set
+  unfoldable pub missing : ℕ → List ℕ
+  missing t = keep (λ k. not (has (setOf appliedSets t) k)) (setOf (blankingSets q) t)
+
+  -- whether a step has a condition
+  unfoldable pub asks : Blanking ℕ → Bool
+  asks s = elim (s .1) [ [] ↦ false | k ∷ C ↦ true ]
+
+  -- the engine's own blanking steps: "each table whose set holds more than was applied gets one blanking step with the missing
+  -- conditions", by table number
+  unfoldable pub blankings : List (Blanking ℕ)
+  blankings = keep asks (map (λ t. (t, missing t)) (tableNumbers q))

@@ -1,0 +1,2 @@
+// The query of a report, its blanking sets and its plan.
+pub mod step;

@@ -1,0 +1,6 @@
+pub mod Bytes
+pub mod Numbers
+pub mod Lines
+pub mod Reading
+pub mod Questions
+pub mod Print

@@ -1,0 +1,153 @@
+-- The form of each kind of line: document 01, "Report text". A form reads the fields of a line from the left, each once.
+-- Assumes nothing.
+use mathlib.Core.Bool.{Bool}
+use mathlib.Core.List.{List, [], _∷_}
+use mathlib.Core.Option.{Option, none, some}
+use Prim.Native.Nat.{ℕ}
+use Prim.Native.String.{String}
+use lib.IntN.{ℤ}
+use Rattle.cells.specs.Choice.{if_then_else_}
+use Rattle.cells.specs.declared.condition.Condition.{Condition}
+use Rattle.cells.specs.declared.condition.Side.the-variants.{Column, Constant}
+use Rattle.rows.specs.declared.kind.Kind.{Kind}
+use Rattle.rows.specs.declared.kind.Kind.the-variants.{Inner, Outer}
+use Rattle.text.specs.Bytes.{Bytes, bytes, tab, lineFeed, sameBytes, split, closed}
+use Rattle.text.specs.Numbers.{small, constant, cell}
+
+-- a line and what it says: T with its count of columns, D with its cells, J with its kind and sides, C or K with its
+-- condition, P with its two nodes
+pub data Line : Type 0 where
+  tableLine : ℕ → Line
+  rowLine : List ℤ → Line
+  joinLine : Kind → ℕ → ℕ → Line
+  conditionLine : Condition → Line
+  orderLine : ℕ → ℕ → Line
+
+-- ---- forms
+
+-- what the fields say, and the fields that are left
+abbrev pub Form : Type 0 → Type 0
+Form A = List Bytes → Option (A × List Bytes)
+
+-- one form and then another
+infixl 20 _>>=_
+abbrev pub _>>=_ : {A B : Type 0} → Form A → (A → Form B) → Form B
+_>>=_ m f = λ fs. elim (m fs) [ none ↦ none | some r ↦ f (r .0) (r .1) ]
+
+abbrev pub _>>_ : {A B : Type 0} → Form A → Form B → Form B
+_>>_ m n = m >>= λ _. n
+
+-- one field
+unfoldable pub field : {A : Type 0} → (Bytes → Option A) → Form A
+field f [] = none
+field f (x ∷ fs) = elim (f x) [ none ↦ none | some a ↦ some (a, fs) ]
+
+-- a field that is one of these words, each of which stands for a value
+unfoldable pub oneOf : {A : Type 0} → List (String × A) → Bytes → Option A
+oneOf [] x = none
+oneOf (w ∷ ws) x = if sameBytes x (bytes (w .0)) then some (w .1) else oneOf ws x
+
+-- the line ends here
+unfoldable pub end : {A : Type 0} → A → Form A
+end a [] = some (a, [])
+end a (x ∷ fs) = none
+
+-- every field read the same way, or nothing
+unfoldable pub both : {A : Type 0} → Option A → Option (List A) → Option (List A)
+both none r = none
+both (some a) none = none
+both (some a) (some l) = some (a ∷ l)
+
+unfoldable pub readAll : {A : Type 0} → (Bytes → Option A) → List Bytes → Option (List A)
+readAll f [] = some []
+readAll f (x ∷ l) = both (f x) (readAll f l)
+
+-- ---- fields
+
+-- the letter that opens a line
+unfoldable pub word : String → Form Unit
+word w = field (oneOf ((w, tt) ∷ []))
+
+-- a table, column or node field, or T's count
+unfoldable pub numberField : Form ℕ
+numberField = field small
+
+-- "kind `I` (inner) or `L` (left outer, left side preserved)"
+unfoldable pub kindField : Form Kind
+kindField = field (oneOf (("I", Inner) ∷ ("L", Outer) ∷ []))
+
+-- "codes `<` 1, `=` 2, `<=` 3, `>` 4, `<>` 5, `>=` 6"
+unfoldable pub operatorField : Form ℕ
+operatorField = field (oneOf (("<", 1) ∷ ("=", 2) ∷ ("<=", 3) ∷ (">", 4) ∷ ("<>", 5) ∷ (">=", 6) ∷ []))
+
+-- "cells, at least one"
+unfoldable pub cellFields : Form (List ℤ)
+cellFields [] = none
+cellFields (x ∷ fs) = elim (readAll cell (x ∷ fs)) [ none ↦ none | some zs ↦ some (zs, []) ]
+
+-- ---- lines
+
+-- "`T` columns: opens a table"
+unfoldable pub formT : Form Line
+formT = do
+  word "T"
+  n ← numberField
+  end (tableLine n)
+
+-- "`D` cells, at least one: one row of the latest table"
+unfoldable pub formD : Form Line
+formD = do
+  word "D"
+  zs ← cellFields
+  end (rowLine zs)
+
+-- "`J` kind left right"
+unfoldable pub formJ : Form Line
+formJ = do
+  word "J"
+  k ← kindField
+  l ← numberField
+  r ← numberField
+  end (joinLine k l r)
+
+-- "`C` table column operator table column: a condition of the latest join"
+unfoldable pub formC : Form Line
+formC = do
+  word "C"
+  t ← numberField
+  c ← numberField
+  o ← operatorField
+  u ← numberField
+  d ← numberField
+  end (conditionLine (record { table = t; column = c; operator = o; side = Column u d }))
+
+-- "`K` table column operator number: the same with a constant in a cell's range"
+unfoldable pub formK : Form Line
+formK = do
+  word "K"
+  t ← numberField
+  c ← numberField
+  o ← operatorField
+  z ← field constant
+  end (conditionLine (record { table = t; column = c; operator = o; side = Constant z }))
+
+-- "`P` left right: one pair of the joining order"
+unfoldable pub formP : Form Line
+formP = do
+  word "P"
+  l ← numberField
+  r ← numberField
+  end (orderLine l r)
+
+-- the first of these forms that the fields have
+unfoldable pub firstOf : List (Form Line) → List Bytes → Option Line
+firstOf [] fs = none
+firstOf (f ∷ forms) fs = elim (f fs) [ none ↦ firstOf forms fs | some r ↦ some (r .0) ]
+
+-- "fields parted by one tab"
+unfoldable pub lineOf : Bytes → Option Line
+lineOf bs = firstOf (formT ∷ formD ∷ formJ ∷ formC ∷ formK ∷ formP ∷ []) (split tab bs)
+
+-- the lines of a text, if every one is closed and has a form
+unfoldable pub linesOf : Bytes → Option (List Line)
+linesOf bs = elim (closed (split lineFeed bs)) [ none ↦ none | some ls ↦ readAll lineOf ls ]

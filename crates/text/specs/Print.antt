@@ -1,0 +1,66 @@
+-- The lines of the print: document 01, "The whole print of one report". Assumes nothing.
+use mathlib.Core.Bool.{Bool, true, false}
+use mathlib.Core.List.{List, [], _∷_, _++_, map, flatMap}
+use Prim.Native.Nat.{ℕ, zero, suc, _+_, _^_, _/_, _%_}
+use lib.Dec.{eqb, leb}
+use lib.ListN.{getD}
+use Rattle.cells.specs.Choice.{if_then_else_}
+use Rattle.cells.specs.Row.{Row, blankRow}
+use Rattle.rows.specs.Lists.{range, keep}
+use Rattle.plan.specs.declared.step.Step.{Step}
+use Rattle.text.specs.Bytes.{Bytes, bytes, tab, lineFeed}
+
+-- ---- fields
+
+-- the decimal digits of a number of at most so many digits
+unfoldable pub digitsOf : ℕ → ℕ → Bytes
+digitsOf zero n = []
+digitsOf (suc most) n = elim (leb n 9) [ true ↦ (48 + n) ∷ [] | false ↦ digitsOf most (n / 10) ++ ((48 + n % 10) ∷ []) ]
+
+-- a number of the print, which has at most five digits
+unfoldable pub printNumber : ℕ → Bytes
+printNumber n = digitsOf 5 n
+
+-- a line: its letter, its fields each behind a tab, and the line feed
+unfoldable pub printFields : List Bytes → Bytes
+printFields [] = lineFeed ∷ []
+printFields (f ∷ fs) = (tab ∷ f) ++ printFields fs
+
+-- the numbers of the bits that are set
+unfoldable pub hasBit : ℕ → ℕ → Bool
+hasBit m k = eqb (m / 2 ^ k % 2) 1
+
+unfoldable pub bitNumbers : ℕ → List ℕ
+bitNumbers m = keep (hasBit m) (range 0 64)
+
+-- "a row number or blank (.. `-` in text)"
+unfoldable pub printEntry : ℕ → Bytes
+printEntry x = if eqb x blankRow then bytes "-" else printNumber x
+
+-- ---- lines
+
+-- "S: table, its set", from a table on; a set is given as bits
+unfoldable pub printSets : ℕ → List ℕ → Bytes
+printSets t [] = []
+printSets t (s ∷ S) = bytes "S" ++ printFields (map printNumber (t ∷ bitNumbers s)) ++ printSets (suc t) S
+
+-- "kind (I, L, or O for product)"
+unfoldable pub kindLetter : ℕ → Bytes
+kindLetter k = getD ([] ∷ bytes "I" ∷ bytes "L" ∷ bytes "O" ∷ []) k []
+
+-- "M: kind .., two nodes .., rows of that result, conditions. B: table, conditions. Z: best match"
+unfoldable pub printStep : Step → Bytes
+printStep s =
+    if leb (s .kind) 3
+    then bytes "M"
+    ++ printFields (kindLetter (s .kind) ∷ map printNumber (s .first ∷ s .second ∷ s .rows ∷ bitNumbers (s .conditions)))
+    else if eqb (s .kind) 4 then bytes "B" ++ printFields (map printNumber (s .first ∷ bitNumbers (s .conditions)))
+    else bytes "Z" ++ printFields []
+
+-- "R: row"
+unfoldable pub printRow : Row → Bytes
+printRow row = bytes "R" ++ printFields (map printEntry row)
+
+-- "A refusal prints only `E|`number"
+unfoldable pub printRefusal : ℕ → Bytes
+printRefusal n = bytes "E" ++ printFields (printNumber n ∷ [])

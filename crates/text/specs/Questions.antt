@@ -1,0 +1,32 @@
+-- Questions 3 and 4, put to the tables: document 01, "Questions, in order". Assumes nothing.
+use mathlib.Core.Bool.{Bool, true, false, _&&_}
+use mathlib.Core.List.{List, [], _∷_}
+use Prim.Native.Nat.{ℕ, _+_}
+use lib.Dec.{eqb, leb}
+use lib.IntN.{ℤ}
+use lib.ListN.{length}
+use Rattle.rows.specs.Lists.{all}
+use Rattle.plan.specs.Report.{Table, Report}
+
+-- the cells written in these rows, in rows of a wrong width too
+unfoldable pub cellsInRows : List (List ℤ) → ℕ
+cellsInRows [] = 0
+cellsInRows (zs ∷ rows) = length zs + cellsInRows rows
+
+unfoldable pub cellsInTables : List Table → ℕ
+cellsInTables [] = 0
+cellsInTables (t ∷ ts) = cellsInRows (t .rows) + cellsInTables ts
+
+-- "each of 1 to 8 columns and at most 256 rows"
+unfoldable pub tableFits : Table → Bool
+tableFits t = leb 1 (t .columns) && leb (t .columns) 8 && leb (length (t .rows)) 256
+
+-- 3: "Are there 1 to 8 tables, each of 1 to 8 columns and at most 256 rows, and at most 4,096 cells written in all?"
+unfoldable pub question3 : Report → Bool
+question3 r =
+    leb 1 (length (r .tables)) && leb (length (r .tables)) 8 && all tableFits (r .tables)
+    && leb (cellsInTables (r .tables)) 4096
+
+-- 4: "Has each D line as many cells as its table has columns?"
+unfoldable pub question4 : Report → Bool
+question4 r = all (λ (t : Table). all (λ (zs : List ℤ). eqb (length zs) (t .columns)) (t .rows)) (r .tables)

@@ -1,0 +1,1 @@
+// The report text and the print.
