@@ -1,0 +1,278 @@
+#!/usr/bin/env python3
+"""Random small report texts.
+
+    generate.py SEED COUNT DIRECTORY    writes DIRECTORY/0000.in, 0001.in, ...
+
+The same seed and count give the same texts. About half of the texts are whole;
+the others are whole texts with one to three faults. Whole texts are answered
+or get 7, 8 or 11; the faults bring in 2 to 9.
+"""
+import os
+import random
+import sys
+
+OPERATORS = ["<", "=", "<=", ">", "<>", ">="]
+ODD_FIELDS = ["", "-", "-0", "0", "00", "01", "+1", "-1", "1", "2", "3", "5", "7", "8", "9",
+              "9999", "10000", "0001", "2147483647", "2147483648", "-2147483647",
+              "-2147483648", "-2147483649", "99999999999", "1 ", "a", "I", "L", "O",
+              "==", "=<", "=>", "!=", "<>", "<=", "=", "T", "D", "J", "C", "K", "P"]
+
+
+class Text:
+    """A text as lines of fields, with what the faults need to know."""
+
+    def __init__(self):
+        self.lines = []
+
+    def add(self, *fields):
+        self.lines.append([str(f) for f in fields])
+
+    def bytes(self):
+        return "".join("\t".join(line) + "\n" for line in self.lines).encode("latin-1")
+
+    def starting(self, letters):
+        return [i for i, line in enumerate(self.lines) if line and line[0] in letters]
+
+
+def tree(rng, n, flat):
+    """Random pairs over n tables: any two free nodes, or one long chain."""
+    free, pairs = list(range(n)), []
+    rng.shuffle(free)
+    for i in range(n - 1):
+        if flat:
+            left, right = free.pop(), free.pop(0)
+        else:
+            left, right = (free.pop(rng.randrange(len(free))) for _ in range(2))
+        if rng.random() < 0.3:
+            left, right = right, left
+        pairs.append((left, right))
+        free.append(n + i)
+    return pairs
+
+
+def whole(rng, size=None):
+    """A text with every count right. Its tree is mostly a simplified one."""
+    text = Text()
+    n = size or rng.choice([1, 2, 2, 2, 3, 3, 3, 3, 3, 4, 4, 4, 4, 5, 5, 6])
+    most = rng.choice([1, 2, 3, 3, 4, 4]) if n < 5 else rng.choice([1, 2, 2, 3])
+    if rng.random() < 0.06:
+        most = rng.choice([6, 8, 17 if n == 2 else 7])
+    blanks = rng.choice([0, 0.1, 0.1, 0.3])
+    highest = rng.choice([0, 1, 1, 2, 2, 3])
+    columns = []
+    for _ in range(n):
+        columns.append(rng.choice([1, 1, 1, 2, 2, 3]))
+        text.add("T", columns[-1])
+        rows = most if most > 5 else 0 if rng.random() < 0.07 else rng.randint(1, most)
+        for _ in range(rows):
+            text.add("D", *(value(rng, highest, blanks) for _ in range(columns[-1])))
+
+    careful = rng.random() < 0.9
+    outer_share = rng.choice([0.3, 0.6, 0.6, 0.9])
+    loose = rng.choice([0, 0.3, 0.6])           # how many conditions beside the first
+    under = [{t} for t in range(n)]
+    weak = [set() for _ in range(n)]            # tables right of an outer join below
+    for left, right in tree(rng, n, rng.random() < 0.3):
+        kind = "L" if rng.random() < outer_share else "I"
+        text.add("J", kind, left, right)
+        lefts, rights = under[left], under[right]
+        if careful:
+            rights = rights - weak[right]
+            lefts = lefts - weak[left] if kind == "I" else lefts
+        own = [condition(rng, columns, rng.choice(sorted(lefts)), rng.choice(sorted(rights)))]
+        while rng.random() < loose:
+            any_table = sorted(lefts | rights)
+            a, b = rng.choice(any_table), rng.choice(any_table)
+            if rng.random() < 0.3 or a == b:
+                constant = rng.choice([0, 0, 1, 1, 2, highest, -1])
+                own.append(["K", a, rng.randrange(columns[a]), rng.choice(OPERATORS), constant])
+            else:
+                own.append(condition(rng, columns, a, b))
+        rng.shuffle(own)
+        for fields in own:
+            text.add(*fields)
+        under.append(under[left] | under[right])
+        weak.append(weak[left] | weak[right] | (under[right] if kind == "L" else set()))
+    if rng.random() < 0.7:
+        for left, right in tree(rng, n, rng.random() < 0.3):
+            text.add("P", left, right)
+    return text
+
+
+def value(rng, highest, blanks):
+    if rng.random() < blanks:
+        return "-"
+    if rng.random() < 0.02:
+        return rng.choice([-2147483647, 2147483647, -1, -10])
+    return rng.randint(0, highest)
+
+
+def condition(rng, columns, a, b):
+    if rng.random() < 0.3:
+        a, b = b, a
+    op = rng.choice(OPERATORS + ["=", "=", "=", "="])
+    return ["C", a, rng.randrange(columns[a]), op, b, rng.randrange(columns[b])]
+
+
+# --------------------------------------------------------------------- faults
+# Each changes a Text in place. Some leave a text that is still whole.
+
+def some_line(rng, text, letters):
+    places = text.starting(letters)
+    return rng.choice(places) if places else None
+
+
+def odd_field(rng, text):
+    line = rng.choice(text.lines)
+    line[rng.randrange(len(line))] = rng.choice(ODD_FIELDS)
+
+
+def field_more_or_less(rng, text):
+    line = rng.choice(text.lines)
+    if rng.random() < 0.5 and len(line) > 1:
+        line.pop()
+    else:
+        line.append(rng.choice(ODD_FIELDS[:12]))
+
+
+def line_lost(rng, text):
+    text.lines.pop(rng.randrange(len(text.lines)))
+
+
+def line_twice(rng, text):
+    i = rng.randrange(len(text.lines))
+    text.lines.insert(i, list(text.lines[i]))
+
+
+def lines_exchanged(rng, text):
+    i, j = (rng.randrange(len(text.lines)) for _ in range(2))
+    text.lines[i], text.lines[j] = text.lines[j], text.lines[i]
+
+
+def table_count(rng, text):
+    i = some_line(rng, text, "T")
+    if i is not None:
+        text.lines[i] = ["T", rng.choice(["0", "1", "2", "3", "8", "9", "9999"])]
+
+
+def tables_more(rng, text):
+    for _ in range(rng.choice([1, 9])):
+        text.lines.insert(0, ["T", "1"])
+
+
+def cells_more_or_less(rng, text):
+    i = some_line(rng, text, "D")
+    if i is not None:
+        if rng.random() < 0.5 and len(text.lines[i]) > 2:
+            text.lines[i].pop()
+        else:
+            text.lines[i].append(rng.choice(["-", "0", "1"]))
+
+
+def set_field(text, i, place, field):
+    if place < len(text.lines[i]):
+        text.lines[i][place] = str(field)
+
+
+def side_changed(rng, text):
+    i = some_line(rng, text, "J")
+    if i is not None:
+        set_field(text, i, rng.choice([2, 3]), rng.randrange(8))
+
+
+def kind_changed(rng, text):
+    for i in text.starting("J"):
+        if rng.random() < 0.6:
+            set_field(text, i, 1, rng.choice("IL"))
+
+
+def condition_changed(rng, text):
+    i = some_line(rng, text, "CK")
+    if i is not None:
+        choices = [1, 2] if text.lines[i][0] == "K" else [1, 2, 4, 5]
+        set_field(text, i, rng.choice(choices), rng.randrange(4))
+
+
+def tables_renamed(rng, text):
+    """Two tables change places in all conditions: trees that are not simplified."""
+    a, b = (str(rng.randrange(4)) for _ in range(2))
+    for i in text.starting("C"):
+        line = text.lines[i]
+        for place in (1, 4):
+            if place < len(line) and line[place] in (a, b):
+                line[place] = b if line[place] == a else a
+
+
+def join_with_k_only(rng, text):
+    for i in text.starting("C"):
+        if rng.random() < 0.5:
+            text.lines[i] = text.lines[i][:4] + ["1"]
+            text.lines[i][0] = "K"
+
+
+def conditions_more(rng, text):
+    i = some_line(rng, text, "CK")
+    if i is not None:
+        all_now = len(text.starting("CK"))
+        for _ in range(max(0, rng.choice([32, 33]) - all_now)):
+            text.lines.insert(i, list(text.lines[i]))
+
+
+def order_wrong(rng, text):
+    i = some_line(rng, text, "P")
+    if i is None:
+        text.add("P", rng.randrange(3), rng.randrange(3))
+    elif rng.random() < 0.4:
+        text.lines.pop(i)
+    else:
+        set_field(text, i, rng.choice([1, 2]), rng.randrange(9))
+
+
+FAULTS = [odd_field, field_more_or_less, line_lost, line_twice, lines_exchanged, table_count,
+          tables_more, cells_more_or_less, cells_more_or_less, side_changed, side_changed,
+          kind_changed, kind_changed, condition_changed, condition_changed, tables_renamed,
+          tables_renamed, join_with_k_only, join_with_k_only, conditions_more,
+          order_wrong, order_wrong, order_wrong]
+
+
+def byte_fault(rng, data):
+    data = bytearray(data)
+    what = rng.randrange(4)
+    place = rng.randrange(len(data)) if data else 0
+    byte = rng.choice(list(b"0123456789-+\t\n\r |TDJCKPIL<=>") + [0, 128, 255])
+    if what == 0 and data:
+        data[place] = byte
+    elif what == 1 and data:
+        del data[place]
+    elif what == 2:
+        data.insert(place, byte)
+    else:
+        del data[place:]                        # the text ends early
+    return bytes(data)
+
+
+def one(rng, size=None):
+    """One random text."""
+    text = whole(rng, size)
+    if rng.random() < 0.5:
+        return text.bytes()
+    if rng.random() < 0.2:
+        return byte_fault(rng, text.bytes())
+    for _ in range(rng.choice([1, 1, 1, 2, 3])):
+        if text.lines:
+            rng.choice(FAULTS)(rng, text)
+    return text.bytes()
+
+
+def texts(seed, count, size=None):
+    rng = random.Random(seed)
+    return [one(rng, size) for _ in range(count)]
+
+
+if __name__ == "__main__":
+    if len(sys.argv) != 4:
+        sys.exit("usage: generate.py SEED COUNT DIRECTORY")
+    os.makedirs(sys.argv[3], exist_ok=True)
+    for i, data in enumerate(texts(int(sys.argv[1]), int(sys.argv[2]))):
+        with open(os.path.join(sys.argv[3], "%04d.in" % i), "wb") as file:
+            file.write(data)
