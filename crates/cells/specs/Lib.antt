@@ -1,5 +1,11 @@
 pub mod Choice
 pub mod Cell
+pub mod CellLaws
 pub mod Operator
+pub mod Outcomes
+pub mod Below
+pub mod OperatorLaws
 pub mod Row
 pub mod Condition
+pub mod TableLaws
+pub mod ConditionLaws

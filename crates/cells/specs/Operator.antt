@@ -1,7 +1,7 @@
 -- Operators and outcomes: document 01, "Conditions". Assumes nothing.
-use mathlib.Core.Bool.{Bool, true, false, not, _&&_}
+use mathlib.Core.Bool.{Bool, false, not, _&&_}
 use mathlib.Core.List.{List, [], _∷_}
-use Prim.Native.Nat.{ℕ}
+use Prim.Native.Nat.{ℕ, _+_, _*_, _/_, _%_}
 use lib.IntN.{ℤ}
 use lib.ListN.{getD}
 use lib.Signed.{ltZ, leZ}
@@ -39,6 +39,10 @@ operators =
 -- whether an operator, by its code, is true of two numbers
 unfoldable pub says : ℕ → ℤ → ℤ → Bool
 says op x y = getD operators op never x y
+
+-- the code of an operator with its sides exchanged: a code is a sum of 1 for less, 2 for equal and 4 for greater
+unfoldable pub mirrorOf : ℕ → ℕ
+mirrorOf op = op / 4 + op / 2 % 2 * 2 + op % 2 * 4
 
 -- a condition on two cells: "if either cell is blank, the condition is not true, `<>` included"
 unfoldable pub holds : ℕ → ℤ → ℤ → Bool

@@ -2,3 +2,4 @@
 pub mod cell;
 pub mod condition;
 pub mod operator;
+pub mod row;

@@ -1,0 +1,3 @@
+pub mod Ints
+pub mod Lists
+pub mod Numbers

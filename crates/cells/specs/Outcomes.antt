@@ -1,0 +1,11 @@
+-- What an operator says of an outcome. The functions of src/operator.rt that take an outcome cite it; OperatorLaws ties it to
+-- `says`. Assumes nothing.
+use mathlib.Core.Bool.{Bool}
+use Prim.Native.Nat.{ℕ}
+use lib.IntN.{pos}
+use Rattle.cells.specs.Operator.{columnOf, says}
+use Rattle.cells.specs.declared.operator.Outcome.{Outcome}
+
+-- whether an operator is true of numbers with this outcome: the numbers 0, 1, 2 compared with 1 are less, equal, greater
+unfoldable pub allowed : ℕ → Outcome → Bool
+allowed op o = says op (pos (columnOf o)) (pos 1)
