@@ -1,5 +1,5 @@
--- What an operator says of an outcome. The functions of src/operator.rt that take an outcome cite it; OperatorLaws ties it to
--- `says`. Assumes nothing.
+-- Serves the code: the functions of src/operator.rt that take an outcome cite it, and no other definition does. The law
+-- `says-allowed` of OperatorLaws ties it to `says`. Assumes nothing.
 use mathlib.Core.Bool.{Bool}
 use Prim.Native.Nat.{ℕ}
 use lib.IntN.{pos}
