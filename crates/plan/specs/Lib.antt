@@ -4,3 +4,5 @@ pub mod Sets
 pub mod Plan
 pub mod Steps
 pub mod Questions
+pub mod NodeLaws
+pub mod StageLaws

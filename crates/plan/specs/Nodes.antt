@@ -7,20 +7,24 @@ use Rattle.rows.specs.Lists.{range}
 use Rattle.rows.specs.Trees.{Tree, leaf, join}
 use Rattle.plan.specs.Report.{Join, Pair, Query, tableCount, tableNumbers, joinPairs, joinOrder}
 
+-- a list in which each of the given things makes one more element, from those before it
+unfoldable pub grown : {A X : Type 0} → (List A → X → A) → List A → List X → List A
+grown f l [] = l
+grown f l (x ∷ xs) = grown f (l ++ (f l x ∷ [])) xs
+
 -- ---- the tables under each node
 
 -- the tables under a node; a node that there is not has none
 unfoldable pub tablesAt : List (List ℕ) → ℕ → List ℕ
 tablesAt nodes i = getD nodes i []
 
--- each pair makes a node of the tables under its two nodes
-unfoldable pub withPairs : List (List ℕ) → List Pair → List (List ℕ)
-withPairs nodes [] = nodes
-withPairs nodes (p ∷ ps) = withPairs (nodes ++ ((tablesAt nodes (p .0) ++ tablesAt nodes (p .1)) ∷ [])) ps
+-- a pair makes a node of the tables under its two nodes
+unfoldable pub tablesOfPair : List (List ℕ) → Pair → List ℕ
+tablesOfPair nodes p = tablesAt nodes (p .0) ++ tablesAt nodes (p .1)
 
 -- the tables under every node that these pairs make
 unfoldable pub nodesOf : Query → List Pair → List (List ℕ)
-nodesOf q ps = withPairs (map (λ t. t ∷ []) (tableNumbers q)) ps
+nodesOf q ps = grown tablesOfPair (map (λ t. t ∷ []) (tableNumbers q)) ps
 
 -- the nodes of the J lines
 unfoldable pub joinNodes : Query → List (List ℕ)
@@ -40,14 +44,9 @@ treeAt trees i = getD trees i (leaf 0)
 unfoldable pub treeOf : List (Tree ℕ) → Join → Tree ℕ
 treeOf trees j = join (j .kind) (j .conditions) (treeAt trees (j .left)) (treeAt trees (j .right))
 
--- each join makes a node
-unfoldable pub withJoins : List (Tree ℕ) → List Join → List (Tree ℕ)
-withJoins trees [] = trees
-withJoins trees (j ∷ js) = withJoins (trees ++ (treeOf trees j ∷ [])) js
-
 -- the trees of every node that these joins make
 unfoldable pub treesOf : Query → List Join → List (Tree ℕ)
-treesOf q js = withJoins (map leaf (tableNumbers q)) js
+treesOf q js = grown treeOf (map leaf (tableNumbers q)) js
 
 -- the last node's tree: the whole (of a lone table, the table)
 unfoldable pub lastTree : List (Tree ℕ) → Tree ℕ
