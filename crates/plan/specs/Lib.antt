@@ -6,3 +6,7 @@ pub mod Steps
 pub mod Questions
 pub mod NodeLaws
 pub mod StageLaws
+pub mod SetLaws
+pub mod BuiltLaws
+pub mod TiedLaws
+pub mod QueryLaws

@@ -244,15 +244,15 @@ module _ {G : Join → Type 0} {trees : List (Tree ℕ)} {M : ℕ} {U : List ℕ
 
   -- P of every node, where a join whose sides have no table in common makes P of its node
   pub every-node : (P : Tree ℕ → Type 0)
-      → ((j : Join) → G j → Disjoint (treeAt trees (j .left)) (treeAt trees (j .right)) → P (treeAt trees (j .left)) → P (treeAt trees (j .right))
-      → P (treeOf trees j))
+      → ((j : Join) → G j → j .left < M → j .right < M → Disjoint (treeAt trees (j .left)) (treeAt trees (j .right))
+      → P (treeAt trees (j .left)) → P (treeAt trees (j .right)) → P (treeOf trees j))
       → {m : ℕ} {used : List ℕ} {js : List Join} → Stages G trees M U m used js → OpenApart trees m used
       → ((i : ℕ) → i < m → P (treeAt trees i)) → (i : ℕ) → i < M → P (treeAt trees i)
   every-node P make allMade a h = h
   every-node P make (makes {m} {j} hl hr ul ur lr e g s) a h = every-node P make s (apart-next trees j hl hr ul ur e a)
       (λ i b. by-cases (ℕ-discrete i m)
       (λ q. subst (λ (k : ℕ). P (treeAt trees k)) (sym q) (subst P (sym e)
-      (make j g (a (j .left) (j .right) (hl, ul) (hr, ur) lr) (h (j .left) hl) (h (j .right) hr))))
+      (make j g (omega (arith, stages-count s)) (omega (arith, stages-count s)) (a (j .left) (j .right) (hl, ul) (hr, ur) lr) (h (j .left) hl) (h (j .right) hr))))
       (λ q. h i (omega arith)))
 
   -- with one join fewer than tables, the last node alone is open at the end: it has every table

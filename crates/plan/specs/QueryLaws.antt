@@ -1,0 +1,117 @@
+-- The query's tree of a report that questions 5 to 8 do not turn down: its shape, that it is simplified, and that the blanking sets
+-- are closed. Assumes nothing.
+use mathlib.Core.Path.{_≡_, refl, sym, ap, _∙_, subst}
+use mathlib.Core.Logic.{_⊎_, inl, inr, ⊎-elim, _↔_, by-cases}
+use mathlib.Core.Bool.{Bool, true, false, not, _&&_}
+use mathlib.Core.List.{List, [], _∷_, _++_, map}
+use Prim.Native.Nat.{ℕ, _<_, _≤_}
+use native.Mathlib.Decide.{decLt}
+use native.Mathlib.Omega.{arith}
+use lib.Dec.{T, leb, T-not}
+use lib.ListN.{length, getD, length-map, List·getD-eq-default}
+use mir.Facts.{and-yes, yes-and}
+use Rattle.cells.specs.Condition.{namesOf}
+use Rattle.rows.specs.Lists.{range, all, any, has}
+use Rattle.rows.specs.ListLaws.{_isIn_, here, there, append-left, append-right, append-elim, all-elim, any-elim, any-intro, has-intro, flatMap-intro, Includes}
+use Rattle.rows.specs.Trees.{Database, Tree, leaf, join, tablesUnder}
+use Rattle.rows.specs.Shapes.{Lawful, BlanksLeft, BlanksRight, HasTable, Shaped, table-listed}
+use Rattle.rows.specs.Sets.{Applied, applied-table, applied-fits, Closed, Fits}
+use Rattle.rows.specs.Simplified.{IsOuter, RightOfOuter, NamesFree, Simplified, sets-closed}
+use Rattle.rows.specs.declared.kind.Kind.{Kind}
+use Rattle.rows.specs.declared.kind.Kind.the-variants.{Inner, Outer, Product}
+use Rattle.plan.specs.Report.{Join, Pair, Query, tableCount, tableNumbers, conditionAt, namedBy, joinPairs}
+use Rattle.plan.specs.Nodes.{tablesAt, treeAt, treeOf, joinNodes, joinTrees, joinTree, lastTree, treesOf, nodesOf}
+use Rattle.plan.specs.Sets.{Sets, setOf, blanksLeft, blanksRight, setsAfter, setsBy, emptySets, blankingSets}
+use Rattle.plan.specs.Plan.{crosses}
+use Rattle.plan.specs.Questions.{question5, question6, question7, question8, conditionFits, rightSides, namesRightSide, wellBuilt}
+use Rattle.plan.specs.NodeLaws.{Matched, noPair, nextPair}
+use Rattle.plan.specs.SetLaws.{Numbered, blanks-left, blanks-right}
+use Rattle.plan.specs.BuiltLaws.{length-range, each-node, tables-exist, of-last, last-has-every, sets-applied}
+use Rattle.plan.specs.TiedLaws.{fits-inside, crosses-across, Tied, nodes-shaped}
+
+-- what the text's reading gives: the conditions of a join are conditions of the query, and no J line is a product
+abbrev pub WellRead : Query → Type 0
+WellRead q = (j : Join) → j isIn q .joins → Numbered q j × BlanksRight (j .kind)
+
+-- questions 5 to 8 do not turn the query down
+pub record Accepted (q : Query) : Type 0 where
+  pub read : WellRead q
+  pub five : T (question5 q)
+  pub six : T (question6 q)
+  pub seven : T (question7 q)
+  pub eight : T (question8 q)
+
+-- a table in the right side of an outer join is among those that question 8 lists
+right-listed : (E : Tree ℕ) (t : ℕ) → RightOfOuter E t → t isIn rightSides E
+unfolding rightSides
+right-listed (leaf u) t h = absurd h
+right-listed (join Inner C A B) t (inl h) = append-left (rightSides B) (right-listed A t h)
+right-listed (join Inner C A B) t (inr (inl h)) = append-right (rightSides A) (right-listed B t h)
+right-listed (join Inner C A B) t (inr (inr h)) = absurd (h .0)
+right-listed (join Outer C A B) t (inl h) = append-left (tablesUnder B) (right-listed A t h)
+right-listed (join Outer C A B) t (inr (inl h)) = append-right (rightSides A) (right-inside B t h)
+  where
+    right-inside : (E : Tree ℕ) (t : ℕ) → RightOfOuter E t → t isIn tablesUnder E
+    right-inside E t h = table-listed E (inside E h)
+      where
+        inside : (E : Tree ℕ) → RightOfOuter E t → HasTable E t
+        inside (leaf u) h = absurd h
+        inside (join k C A B) (inl h) = inl (inside A h)
+        inside (join k C A B) (inr (inl h)) = inr (inside B h)
+        inside (join k C A B) (inr (inr h)) = inr (h .1)
+right-listed (join Outer C A B) t (inr (inr h)) = append-right (rightSides A) (table-listed B (h .1))
+right-listed (join Product C A B) t (inl h) = append-left (rightSides B) (right-listed A t h)
+right-listed (join Product C A B) t (inr (inl h)) = append-right (rightSides A) (right-listed B t h)
+right-listed (join Product C A B) t (inr (inr h)) = absurd (h .0)
+
+-- a table that there is not has no set
+sets-length : (q : Query) (nodes : List (List ℕ)) (js : List Join) (S : Sets) → length S ≡ tableCount q → length (setsBy q nodes js S) ≡ tableCount q
+unfolding setsBy setsAfter tableNumbers
+sets-length q nodes [] S e = e
+sets-length q nodes (j ∷ js) S e = sets-length q nodes js (setsAfter q nodes j S) (length-map (range 0 (tableCount q)) _ ∙ length-range 0 (tableCount q))
+
+module _ (q : Query) (ok : Accepted q) where
+  -- what the questions say of one J line
+  pub record JoinFits (j : Join) : Type 0 where
+    pub tied : Tied q (joinNodes q) j
+    pub plain : BlanksRight (j .kind)
+    pub left-free : BlanksLeft (j .kind) → (c : ℕ) → c isIn j .conditions → (t : ℕ) → t isIn namesOf (conditionAt q c)
+        → ¬ RightOfOuter (treeAt (joinTrees q) (j .left)) t
+    pub right-free : BlanksRight (j .kind) → (c : ℕ) → c isIn j .conditions → (t : ℕ) → t isIn namesOf (conditionAt q c)
+        → ¬ RightOfOuter (treeAt (joinTrees q) (j .right)) t
+
+  -- question 8 at one side of a join
+  free : (j : Join) (b : Bool) (i : ℕ) → T (not (b && namesRightSide q (j .conditions) i)) → T b → (c : ℕ) → c isIn j .conditions
+      → (t : ℕ) → t isIn namesOf (conditionAt q c) → ¬ RightOfOuter (treeAt (joinTrees q) i) t
+  unfolding namesRightSide namedBy
+  free j b i h y c m t n x = T-not (b && namesRightSide q (j .conditions) i) h
+      (yes-and b (namesRightSide q (j .conditions) i) y
+      (any-intro (has (rightSides (treeAt (joinTrees q) i))) (flatMap-intro (λ (k : ℕ). namesOf (conditionAt q k)) m n)
+      (has-intro (right-listed (treeAt (joinTrees q) i) t x))))
+
+  join-fits : (j : Join) → j isIn q .joins → JoinFits j
+  unfolding question6 question7 question8
+  join-fits j m = record {
+    tied = record {
+      numbered = ok .read j m .0;
+      inside = λ y c n t k. append-elim (tablesAt (joinNodes q) (j .left)) (fits-inside q ts (conditionAt q c) (six c n) t k);
+      across = λ y. let (c, n, h) = any-elim _ (j .conditions) seven in
+          (c, n, crosses-across (tablesAt (joinNodes q) (j .left)) (tablesAt (joinNodes q) (j .right)) (conditionAt q c) h);
+    };
+    plain = ok .read j m .1;
+    left-free = λ y c n t k. free j (blanksLeft (j .kind)) (j .left) (eight .0) (blanks-left (j .kind) .1 y) c n t k;
+    right-free = λ y c n t k. free j (blanksRight (j .kind)) (j .right) (eight .1) (blanks-right (j .kind) .1 y) c n t k;
+  }
+    where
+      ts : List ℕ
+      ts = tablesAt (joinNodes q) (j .left) ++ tablesAt (joinNodes q) (j .right)
+
+      six : (c : ℕ) → c isIn j .conditions → T (conditionFits q ts (conditionAt q c))
+      six c n = all-elim (λ k. conditionFits q ts (conditionAt q k)) (j .conditions)
+          (all-elim _ (q .joins) (and-yes (leb (length (q .conditions)) 32) _ (ok .six) .1) j m) c n
+
+      seven : T (any (λ k. crosses (conditionAt q k) (tablesAt (joinNodes q) (j .left)) (tablesAt (joinNodes q) (j .right))) (j .conditions))
+      seven = all-elim _ (q .joins) (ok .seven) j m
+
+      eight : T (not (blanksLeft (j .kind) && namesRightSide q (j .conditions) (j .left))) × T (not (blanksRight (j .kind) && namesRightSide q (j .conditions) (j .right)))
+      eight = and-yes _ _ (all-elim _ (q .joins) (ok .eight) j m)
