@@ -70,6 +70,11 @@ unfolding setsBy setsAfter tableNumbers
 sets-length q nodes [] S e = e
 sets-length q nodes (j ∷ js) S e = sets-length q nodes js (setsAfter q nodes j S) (length-map (range 0 (tableCount q)) _ ∙ length-range 0 (tableCount q))
 
+no-set : (q : Query) (nodes : List (List ℕ)) (js : List Join) (t : ℕ) → ¬ (t < tableCount q) → setOf (setsBy q nodes js (emptySets q)) t ≡ []
+unfolding setOf emptySets tableNumbers
+no-set q nodes js t h = List·getD-eq-default (setsBy q nodes js (emptySets q)) []
+    (let e = sets-length q nodes js (emptySets q) (length-map (range 0 (tableCount q)) _ ∙ length-range 0 (tableCount q)) in omega arith)
+
 module _ (q : Query) (ok : Accepted q) where
   -- what the questions say of one J line
   pub record JoinFits (j : Join) : Type 0 where
@@ -114,4 +119,50 @@ module _ (q : Query) (ok : Accepted q) where
       seven = all-elim _ (q .joins) (ok .seven) j m
 
       eight : T (not (blanksLeft (j .kind) && namesRightSide q (j .conditions) (j .left))) × T (not (blanksRight (j .kind) && namesRightSide q (j .conditions) (j .right)))
-      eight = and-yes _ _ (all-elim _ (q .joins) (ok .eight) j m)
+      eight = and-yes (not (blanksLeft (j .kind) && namesRightSide q (j .conditions) (j .left)))
+          (not (blanksRight (j .kind) && namesRightSide q (j .conditions) (j .right))) (all-elim _ (q .joins) (ok .eight) j m)
+
+  joins-matched : (js : List Join) → ((j : Join) → j isIn js → JoinFits j) → Matched JoinFits (map (λ (j : Join). (j .left, j .right)) js) js
+  joins-matched [] h = noPair
+  joins-matched (j ∷ js) h = nextPair (inl (refl, refl)) (h j (here refl)) (joins-matched js (λ i m. h i (there m)))
+
+  pub query-matched : Matched JoinFits (joinPairs q) (q .joins)
+  unfolding joinPairs
+  query-matched = joins-matched (q .joins) join-fits
+
+  pub query-built : T (wellBuilt (tableCount q) (joinPairs q))
+  unfolding question5
+  query-built = ok .five
+
+  module _ {D : Database ℕ} (laws : Lawful D) (wide : tableCount q ≡ D .width)
+      (names : (k t : ℕ) → (laws .Names k t ↔ t isIn namesOf (conditionAt q k))) where
+    pub query-shaped : Shaped laws (joinTree q)
+    unfolding joinTree joinTrees joinNodes
+    query-shaped = of-last q query-matched query-built (Shaped laws)
+        (nodes-shaped q laws wide names query-matched query-built (λ j g. g .tied))
+
+    pub query-simplified : Simplified laws (joinTree q)
+    unfolding joinTree joinTrees treeOf
+    query-simplified = of-last q query-matched query-built (Simplified laws)
+        (each-node q query-matched query-built (Simplified laws) (λ i h. tt) (λ j g hl hr d a b. (
+          a,
+          b,
+          g .plain,
+          (λ y c m t n. g .left-free y c m t (names c t .0 n)),
+          (λ y c m t n. g .right-free y c m t (names c t .0 n)),
+        )))
+
+    -- the blanking sets are what the query's tree applies to its tables
+    pub query-sets : (t k : ℕ) → (k isIn setOf (blankingSets q) t ↔ Applied laws (joinTree q) t k)
+    unfolding blankingSets joinTree joinTrees joinNodes
+    query-sets t k = by-cases (decLt t (tableCount q)) (λ h. sets-applied q query-matched query-built laws names (λ j g. g .tied .numbered) t h k) (λ h. (
+      λ m. elim (subst (λ (l : List ℕ). k isIn l) (no-set q (joinNodes q) (q .joins) t h) m) [ ],
+      λ y. absurd (h (of-last q query-matched query-built (λ (E : Tree ℕ). (u : ℕ) → HasTable E u → u < tableCount q)
+          (tables-exist q query-matched query-built) t (applied-table laws y))),
+    ))
+
+    pub query-closed : Closed laws (setOf (blankingSets q))
+    query-closed = sets-closed laws (setOf (blankingSets q)) (joinTree q) query-shaped query-simplified query-sets
+
+    pub query-fits : Fits (setOf (blankingSets q)) (joinTree q)
+    query-fits = applied-fits laws (setOf (blankingSets q)) (joinTree q) (λ t c y. query-sets t c .1 y)

@@ -40,9 +40,14 @@ wellBuilt n ps = eqb (suc (length ps)) n && lowerSides n ps && noneTwice (sidesO
 unfoldable pub question5 : Query → Bool
 question5 q = wellBuilt (tableCount q) (joinPairs q)
 
+-- whether there are no pairs, or pairs that are well built
+unfoldable pub noneOrBuilt : ℕ → List Pair → Bool
+noneOrBuilt n [] = true
+noneOrBuilt n (p ∷ ps) = wellBuilt n (p ∷ ps)
+
 -- 9: "Are there no P lines, or one fewer than tables, built as in question 5?"
 unfoldable pub question9 : Query → Bool
-question9 q = elim (q .pairs) [ [] ↦ true | p ∷ ps ↦ wellBuilt (tableCount q) (p ∷ ps) ]
+question9 q = noneOrBuilt (tableCount q) (q .pairs)
 
 -- ---- 6 and 7: the conditions of each join
 

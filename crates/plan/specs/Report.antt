@@ -78,6 +78,11 @@ namedBy q C = flatMap (λ k. namesOf (conditionAt q k)) C
 unfoldable pub joinPairs : Query → List Pair
 joinPairs q = map (λ (j : Join). (j .left, j .right)) (q .joins)
 
--- the joining order: "With no P line, the J pairs are the order"
+-- "With no P line, the J pairs are the order"
+unfoldable pub orderOr : List Pair → List Pair → List Pair
+orderOr [] joined = joined
+orderOr (p ∷ ps) joined = p ∷ ps
+
+-- the joining order
 unfoldable pub joinOrder : Query → List Pair
-joinOrder q = elim (q .pairs) [ [] ↦ joinPairs q | p ∷ ps ↦ p ∷ ps ]
+joinOrder q = orderOr (q .pairs) (joinPairs q)
