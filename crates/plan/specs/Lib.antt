@@ -10,3 +10,6 @@ pub mod SetLaws
 pub mod BuiltLaws
 pub mod TiedLaws
 pub mod QueryLaws
+pub mod PlanLaws
+pub mod StepLists
+pub mod Reordering

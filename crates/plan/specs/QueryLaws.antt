@@ -134,6 +134,14 @@ module _ (q : Query) (ok : Accepted q) where
   unfolding question5
   query-built = ok .five
 
+  -- the query's tree has every table, and no other
+  pub query-tables : (t : ℕ) → (HasTable (joinTree q) t ↔ (t < tableCount q))
+  unfolding joinTree joinTrees
+  query-tables t = (
+    of-last q query-matched query-built (λ (E : Tree ℕ). (u : ℕ) → HasTable E u → u < tableCount q) (tables-exist q query-matched query-built) t,
+    last-has-every q query-matched query-built t,
+  )
+
   module _ {D : Database ℕ} (laws : Lawful D) (wide : tableCount q ≡ D .width)
       (names : (k t : ℕ) → (laws .Names k t ↔ t isIn namesOf (conditionAt q k))) where
     pub query-shaped : Shaped laws (joinTree q)

@@ -1,0 +1,221 @@
+-- The plan's tree of an admitted order: its shape, that it fits the blanking sets, what is applied; and that question 10 turns down
+-- no query. Assumes nothing.
+use mathlib.Core.Path.{_≡_, refl, sym, ap, _∙_, subst}
+use mathlib.Core.Logic.{_⊎_, inl, inr, ⊎-elim, _↔_, by-cases}
+use mathlib.Core.Bool.{Bool, true, false, not, _&&_, _||_}
+use mathlib.Core.List.{List, [], _∷_, _++_, map}
+use Prim.Native.Nat.{ℕ, _<_}
+use lib.Dec.{T, T-not, not-T}
+use lib.ListN.{length}
+use mir.Facts.{and-yes, or-yes}
+use Rattle.cells.specs.Condition.{namesOf}
+use Rattle.rows.specs.Lists.{all, any, keep, has}
+use Rattle.rows.specs.ListLaws.{_isIn_, here, there, decT, or-left, or-right, all-elim, all-intro, keep-elim, has-elim, has-intro, Includes}
+use Rattle.rows.specs.Trees.{Database, Tree, leaf, join}
+use Rattle.rows.specs.Shapes.{Lawful, BlanksLeft, BlanksRight, HasTable, Shaped}
+use Rattle.rows.specs.Sets.{Takes, Applied, Closed, Fits}
+use Rattle.rows.specs.declared.kind.Kind.the-variants.{Inner, Outer, Product}
+use Rattle.plan.specs.Report.{Join, Pair, Query, tableCount, conditionNumbers, conditionAt, joinPairs, orderOr, joinOrder}
+use Rattle.plan.specs.Nodes.{tablesAt, treeAt, treeOf, nodesOf, treesOf, lastTree, orderNodes}
+use Rattle.plan.specs.Sets.{Sets, setOf, setsBy, emptySets, blankingSets}
+use Rattle.plan.specs.Plan.{crosses, inEvery, usable, paired, fitsKind, usableAt, allIn, planned, plannedJoins, planTrees, planTree, appliedSets}
+use Rattle.plan.specs.Questions.{wellBuilt, noneOrBuilt, question5, question9, question10}
+use Rattle.plan.specs.NodeLaws.{SidesAre, Matched, noPair, nextPair}
+use Rattle.plan.specs.SetLaws.{Numbered}
+use Rattle.plan.specs.BuiltLaws.{each-node, nodes-alike, tables-exist, of-last, last-has-every, sets-applied}
+use Rattle.plan.specs.TiedLaws.{crosses-across, crosses-inside, Tied, nodes-shaped}
+
+-- ---- one pair
+
+-- a usable condition is a condition of the query, a C line between the two nodes, and in all sets of one of them
+pub usable-elim : (q : Query) (S : Sets) (s l : List ℕ) (c : ℕ) → c isIn usable q S s l
+    → c isIn conditionNumbers q × T (crosses (conditionAt q c) s l) × T (inEvery S s c || inEvery S l c)
+unfolding usable
+usable-elim q S s l c m =
+    let (i, h) = keep-elim (λ (k : ℕ). crosses (conditionAt q k) s l && (inEvery S s k || inEvery S l k)) (conditionNumbers q) m in
+    let (a, b) = and-yes (crosses (conditionAt q c) s l) (inEvery S s c || inEvery S l c) h in
+    (i, a, b)
+
+-- a condition that is in every set is in each
+pub every-elim : (S : Sets) (ts : List ℕ) (c : ℕ) → T (inEvery S ts c) → (t : ℕ) → t isIn ts → c isIn setOf S t
+unfolding inEvery
+every-elim S ts c h t m = has-elim (setOf S t) c (all-elim (λ t. has (setOf S t) c) ts h t m)
+
+every-intro : (S : Sets) (ts : List ℕ) (c : ℕ) → ((t : ℕ) → t isIn ts → c isIn setOf S t) → T (inEvery S ts c)
+unfolding inEvery
+every-intro S ts c h = all-intro (λ t. has (setOf S t) c) ts (λ t m. has-intro (h t m))
+
+-- the plan's join of a pair has the pair's nodes as its sides
+paired-sides : (p : Pair) (C : List ℕ) (a b : Bool) → SidesAre p (paired (p .0) (p .1) C a b)
+unfolding paired
+paired-sides p [] a b = inl (refl, refl)
+paired-sides p (k ∷ C) true true = inl (refl, refl)
+paired-sides p (k ∷ C) false true = inl (refl, refl)
+paired-sides p (k ∷ C) true false = inr (refl, refl)
+paired-sides p (k ∷ C) false false = inl (refl, refl)
+
+module _ (q : Query) where
+  -- the join of a pair is tied, and its conditions are in the sets of all tables of the sides that it blanks
+  pub record PairFits (j : Join) : Type 0 where
+    pub tied : Tied q (orderNodes q) j
+    pub left-sets : BlanksLeft (j .kind) → (t : ℕ) → t isIn tablesAt (orderNodes q) (j .left) → Includes (setOf (blankingSets q) t) (j .conditions)
+    pub right-sets : BlanksRight (j .kind) → (t : ℕ) → t isIn tablesAt (orderNodes q) (j .right) → Includes (setOf (blankingSets q) t) (j .conditions)
+
+  module _ (p : Pair) where
+    abbrev s : List ℕ
+    s = tablesAt (orderNodes q) (p .0)
+
+    abbrev l : List ℕ
+    l = tablesAt (orderNodes q) (p .1)
+
+    -- what is known of the conditions of a pair's join
+    abbrev Usable : List ℕ → Type 0
+    Usable C = (c : ℕ) → c isIn C → c isIn conditionNumbers q × T (crosses (conditionAt q c) s l)
+
+    swapped : {A B : Type 0} → A ⊎ B → B ⊎ A
+    swapped (inl a) = inr a
+    swapped (inr b) = inl b
+
+    pair-fits : (C : List ℕ) (a b : Bool) → Usable C
+        → (T a → (c : ℕ) → c isIn C → (t : ℕ) → t isIn s → c isIn setOf (blankingSets q) t)
+        → (T b → (c : ℕ) → c isIn C → (t : ℕ) → t isIn l → c isIn setOf (blankingSets q) t)
+        → PairFits (paired (p .0) (p .1) C a b)
+    unfolding paired
+    pair-fits [] a b u x y = record {
+      tied = record { numbered = λ c m. elim m [ ]; inside = λ z. absurd z; across = λ z. absurd z };
+      left-sets = λ z. absurd z;
+      right-sets = λ z. absurd z;
+    }
+    pair-fits (k ∷ C) true true u x y = record {
+      tied = record {
+        numbered = λ c m. u c m .0;
+        inside = λ z c m t n. crosses-inside s l (conditionAt q c) (u c m .1) t n;
+        across = λ z. (k, here refl, crosses-across s l (conditionAt q k) (u k (here refl) .1));
+      };
+      left-sets = λ z t h c m. x tt c m t h;
+      right-sets = λ z t h c m. y tt c m t h;
+    }
+    pair-fits (k ∷ C) false true u x y = record {
+      tied = record {
+        numbered = λ c m. u c m .0;
+        inside = λ z c m t n. crosses-inside s l (conditionAt q c) (u c m .1) t n;
+        across = λ z. (k, here refl, crosses-across s l (conditionAt q k) (u k (here refl) .1));
+      };
+      left-sets = λ z. absurd z;
+      right-sets = λ z t h c m. y tt c m t h;
+    }
+    pair-fits (k ∷ C) true false u x y = record {
+      tied = record {
+        numbered = λ c m. u c m .0;
+        inside = λ z c m t n. swapped (crosses-inside s l (conditionAt q c) (u c m .1) t n);
+        across = λ z. let w = crosses-across s l (conditionAt q k) (u k (here refl) .1) in (k, here refl, (w .1, w .0));
+      };
+      left-sets = λ z. absurd z;
+      right-sets = λ z t h c m. x tt c m t h;
+    }
+    pair-fits (k ∷ C) false false u x y = record {
+      tied = record { numbered = λ c m. elim m [ ]; inside = λ z. absurd z; across = λ z. absurd z };
+      left-sets = λ z. absurd z;
+      right-sets = λ z. absurd z;
+    }
+
+    -- all of a pair's usable conditions are in the sets of all tables under a node
+    all-in : (i : ℕ) → T (allIn q p i) → (c : ℕ) → c isIn usableAt q p → (t : ℕ) → t isIn tablesAt (orderNodes q) i → c isIn setOf (blankingSets q) t
+    unfolding allIn
+    all-in i h c m t n = every-elim (blankingSets q) (tablesAt (orderNodes q) i) c
+        (all-elim (inEvery (blankingSets q) (tablesAt (orderNodes q) i)) (usableAt q p) h c m) t n
+
+    pub planned-fits : PairFits (planned q p)
+    unfolding planned usableAt
+    planned-fits = pair-fits (usableAt q p) (allIn q p (p .0)) (allIn q p (p .1))
+        (λ c m. let w = usable-elim q (blankingSets q) s l c m in (w .0, w .1)) (all-in (p .0)) (all-in (p .1))
+
+  planned-matched : (ps : List Pair) → Matched PairFits ps (map (planned q) ps)
+  unfolding planned
+  planned-matched [] = noPair
+  planned-matched (p ∷ ps) = nextPair (paired-sides p (usableAt q p) (allIn q p (p .0)) (allIn q p (p .1))) (planned-fits p) (planned-matched ps)
+
+  pub plan-matched : Matched PairFits (joinOrder q) (plannedJoins q)
+  unfolding plannedJoins
+  plan-matched = planned-matched (joinOrder q)
+
+  -- questions 5 and 9: the order is well built
+  pub order-built : T (question5 q) → T (question9 q) → T (wellBuilt (tableCount q) (joinOrder q))
+  unfolding question5 question9 joinOrder orderOr noneOrBuilt
+  order-built five nine = either (q .pairs) nine
+    where
+      either : (ps : List Pair) → T (noneOrBuilt (tableCount q) ps) → T (wellBuilt (tableCount q) (orderOr ps (joinPairs q)))
+      either [] h = five
+      either (p ∷ ps) h = h
+
+  module _ {D : Database ℕ} (laws : Lawful D) (wide : tableCount q ≡ D .width)
+      (names : (k t : ℕ) → (laws .Names k t ↔ t isIn namesOf (conditionAt q k))) (built : T (wellBuilt (tableCount q) (joinOrder q))) where
+    pub plan-shaped : Shaped laws (planTree q)
+    unfolding planTree planTrees orderNodes
+    plan-shaped = of-last q plan-matched built (Shaped laws) (nodes-shaped q laws wide names plan-matched built (λ j g. g .tied))
+
+    -- the conditions of each pair are in the blanking sets of the tables that it blanks
+    pub plan-fits : Fits (setOf (blankingSets q)) (planTree q)
+    unfolding planTree planTrees orderNodes treeOf
+    plan-fits = of-last q plan-matched built (Fits (setOf (blankingSets q)))
+        (each-node q plan-matched built (Fits (setOf (blankingSets q))) (λ i h. tt) (λ j g hl hr d a b. (
+          a,
+          b,
+          λ t h. ⊎-elim
+              (λ (x, y). g .left-sets x t (nodes-alike q plan-matched built (j .left) hl t .1 y))
+              (λ (x, y). g .right-sets x t (nodes-alike q plan-matched built (j .right) hr t .1 y)) h,
+        )))
+
+    pub plan-tables : (t : ℕ) → (HasTable (planTree q) t ↔ (t < tableCount q))
+    unfolding planTree planTrees
+    plan-tables t = (
+      of-last q plan-matched built (λ (E : Tree ℕ). (u : ℕ) → HasTable E u → u < tableCount q) (tables-exist q plan-matched built) t,
+      last-has-every q plan-matched built t,
+    )
+
+    -- the applied sets are what the plan's tree applies to its tables
+    pub plan-applied : (t : ℕ) → t < tableCount q → (k : ℕ) → (k isIn setOf (appliedSets q) t ↔ Applied laws (planTree q) t k)
+    unfolding appliedSets planTree planTrees orderNodes
+    plan-applied = sets-applied q plan-matched built laws names (λ j g. g .tied .numbered)
+
+  -- ---- question 10
+
+  not-all : {A : Type 0} (f : A → Bool) (l : List A) → ¬ T (all f l) → (a : A) × a isIn l × ¬ T (f a)
+  unfolding all
+  not-all f [] h = absurd (h tt)
+  not-all f (x ∷ l) h = find (f x) refl (not-all f l)
+    where
+      find : (b : Bool) → f x ≡ b → (¬ T (all f l) → (a : _) × a isIn l × ¬ T (f a)) → (a : _) × a isIn (x ∷ l) × ¬ T (f a)
+      find true e r = let (a, m, n) = r (λ k. h (rw e k)) in (a, there m, n)
+      find false e r = (x, here refl, λ k. subst T e k)
+
+  module _ {D : Database ℕ} (laws : Lawful D) (names : (k t : ℕ) → (laws .Names k t ↔ t isIn namesOf (conditionAt q k)))
+      (closed : Closed laws (setOf (blankingSets q))) where
+    -- with closed sets the usable conditions of a pair are all in the one node's sets or all in the other's
+    one-way : (p : Pair) → T (allIn q p (p .0)) ⊎ T (allIn q p (p .1))
+    unfolding allIn usableAt
+    one-way p = by-cases (decT (allIn q p (p .0))) (λ h. inl h) (λ h. inr (other (not-all (inEvery (blankingSets q) (s p)) (usableAt q p) h)))
+      where
+        other : (c : ℕ) × c isIn usableAt q p × ¬ T (inEvery (blankingSets q) (s p) c) → T (all (inEvery (blankingSets q) (l p)) (usableAt q p))
+        other (c, m, n) = all-intro (inEvery (blankingSets q) (l p)) (usableAt q p) (λ d k. ⊎-elim (λ x. absurd (n (drawn d k x))) (λ x. x)
+            (or-yes (inEvery (blankingSets q) (s p) d) (inEvery (blankingSets q) (l p) d) (usable-elim q (blankingSets q) (s p) (l p) d k .2)))
+          where
+            inL : T (inEvery (blankingSets q) (l p) c)
+            inL = ⊎-elim (λ x. absurd (n x)) (λ x. x)
+                (or-yes (inEvery (blankingSets q) (s p) c) (inEvery (blankingSets q) (l p) c) (usable-elim q (blankingSets q) (s p) (l p) c m .2))
+
+            drawn : (d : ℕ) → d isIn usableAt q p → T (inEvery (blankingSets q) (s p) d) → T (inEvery (blankingSets q) (s p) c)
+            drawn d k x =
+                let (a, (v, nv, lv)) = crosses-across (s p) (l p) (conditionAt q d) (usable-elim q (blankingSets q) (s p) (l p) d k .1) in
+                every-intro (blankingSets q) (s p) c (λ t h.
+                closed t v d (every-elim (blankingSets q) (s p) d x t h) (names d v .1 nv) c (every-elim (blankingSets q) (l p) c inL v lv))
+
+    -- question 10 is never answered "no"
+    pub kinds-fit : T (question10 q)
+    unfolding question10 fitsKind
+    kinds-fit = all-intro _ (joinOrder q) (λ p m. either p (usableAt q p) (one-way p))
+      where
+        either : (p : Pair) (C : List ℕ) → T (allIn q p (p .0)) ⊎ T (allIn q p (p .1)) → T (fitsKind C (allIn q p (p .0)) (allIn q p (p .1)))
+        either p [] h = tt
+        either p (k ∷ C) (inl h) = or-left (allIn q p (p .0)) (allIn q p (p .1)) h
+        either p (k ∷ C) (inr h) = or-right (allIn q p (p .0)) (allIn q p (p .1)) h

@@ -1,0 +1,65 @@
+-- Demand 3 over a query: for an accepted query, an admitted order and every list of blanking steps that document 01 allows, the run
+-- of the plan gives the rows of the tree read directly. Assumes nothing.
+use mathlib.Core.Path.{_≡_, refl, sym, subst}
+use mathlib.Core.Logic.{_↔_, by-cases}
+use mathlib.Core.Bool.{not}
+use mathlib.Core.List.{List}
+use Prim.Native.Nat.{ℕ, _<_}
+use lib.Dec.{T, not-T}
+use Rattle.cells.specs.Condition.{namesOf}
+use Rattle.rows.specs.Lists.{keep, has}
+use Rattle.rows.specs.ListLaws.{_isIn_, decT, keep-elim, keep-intro, has-elim, has-intro}
+use Rattle.rows.specs.Rows.{ordered}
+use Rattle.rows.specs.Trees.{Database, rowsOf}
+use Rattle.rows.specs.Nullification.{Blanking, planRows}
+use Rattle.rows.specs.Shapes.{Lawful, HasTable}
+use Rattle.rows.specs.Sets.{Applied}
+use Rattle.rows.specs.Reordering.{Reorders, reordered}
+use Rattle.plan.specs.Report.{Query, tableCount, conditionAt, joinOrder}
+use Rattle.plan.specs.Nodes.{joinTree}
+use Rattle.plan.specs.Sets.{setOf, blankingSets}
+use Rattle.plan.specs.Plan.{planTree, appliedSets, missing}
+use Rattle.plan.specs.Questions.{question9, question10, wellBuilt}
+use Rattle.plan.specs.QueryLaws.{Accepted, query-shaped, query-sets, query-closed, query-fits, query-tables}
+use Rattle.plan.specs.PlanLaws.{order-built, plan-shaped, plan-fits, plan-tables, plan-applied, kinds-fit}
+use Rattle.plan.specs.StepLists.{StepList}
+
+-- a missing condition is in the table's set and not in its applied set
+pub missing-elim : (q : Query) (t c : ℕ) → c isIn missing q t → c isIn setOf (blankingSets q) t
+unfolding missing
+missing-elim q t c m = keep-elim (λ (k : ℕ). not (has (setOf (appliedSets q) t) k)) (setOf (blankingSets q) t) m .0
+
+pub missing-intro : (q : Query) (t c : ℕ) → c isIn setOf (blankingSets q) t → ¬ (c isIn setOf (appliedSets q) t) → c isIn missing q t
+unfolding missing
+missing-intro q t c m n = keep-intro (λ (k : ℕ). not (has (setOf (appliedSets q) t) k)) m
+    (not-T (has (setOf (appliedSets q) t) c) (λ h. n (has-elim (setOf (appliedSets q) t) c h)))
+
+module _ (q : Query) (ok : Accepted q) {D : Database ℕ} (laws : Lawful D) (wide : tableCount q ≡ D .width)
+    (names : (k t : ℕ) → (laws .Names k t ↔ t isIn namesOf (conditionAt q k))) where
+  -- question 10 turns down no accepted query
+  pub question10-yes : T (question10 q)
+  question10-yes = kinds-fit q laws names (query-closed q ok laws wide names)
+
+  module _ (nine : T (question9 q)) (L : List (Blanking ℕ)) (list : StepList q L) where
+    built : T (wellBuilt (tableCount q) (joinOrder q))
+    built = order-built q (ok .five) nine
+
+    reorders : Reorders laws (setOf (blankingSets q)) (joinTree q) (planTree q) L
+    reorders = record {
+      closed = query-closed q ok laws wide names;
+      query-shaped = query-shaped q ok laws wide names;
+      query-fits = query-fits q ok laws wide names;
+      query-applied = λ t c h m. query-sets q ok laws wide names t c .0 m;
+      plan-shaped = plan-shaped q laws wide names built;
+      plan-fits = plan-fits q laws wide names built;
+      to-plan = λ t h. plan-tables q laws wide names built t .1 (query-tables q ok t .0 h);
+      to-query = λ t h. query-tables q ok t .1 (plan-tables q laws wide names built t .0 h);
+      steps-only = λ s m c n. missing-elim q (s .0) c (list .only s m c n);
+      steps-every = λ t c h m n.
+          let b : t < tableCount q = plan-tables q laws wide names built t .0 h in
+          list .every t b c (missing-intro q t c m (λ k. n (plan-applied q laws wide names built t b c .0 k)));
+    }
+
+    -- the run of the plan with that list has the rows of the tree read directly
+    pub same-rows : planRows D (planTree q) L ≡ ordered (rowsOf D (joinTree q))
+    same-rows = reordered laws (setOf (blankingSets q)) (joinTree q) (planTree q) L reorders

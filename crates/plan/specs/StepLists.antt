@@ -1,0 +1,64 @@
+-- Every list of blanking steps that document 01 allows after the pairs: "The plan", second paragraph. The engine's own list is one.
+-- Assumes nothing.
+use mathlib.Core.Path.{_≡_, refl, sym, ap, subst}
+use mathlib.Core.Logic.{_≢_}
+use mathlib.Core.Bool.{Bool, true, false}
+use mathlib.Core.List.{List, [], _∷_, map, nil≢cons}
+use Prim.Native.Nat.{ℕ, _<_}
+use lib.Dec.{T}
+use Rattle.rows.specs.Lists.{range, keep}
+use Rattle.rows.specs.ListLaws.{_isIn_, here, there, keep-elim, keep-intro, map-intro, map-elim, range-intro, range-elim}
+use Rattle.rows.specs.Nullification.{Blanking}
+use Rattle.plan.specs.Report.{Query, tableCount, tableNumbers}
+use Rattle.plan.specs.Plan.{missing, asks, blankings}
+use native.Mathlib.Omega.{arith}
+
+-- "Each step takes one table and one or more conditions, all of them missing for it .., and each missing condition of each table is
+-- taken at least once. Sequence, splitting and repetition are free"
+pub record StepList (q : Query) (L : List (Blanking ℕ)) : Type 0 where
+  pub table : (s : Blanking ℕ) → s isIn L → s .0 < tableCount q
+  pub some : (s : Blanking ℕ) → s isIn L → s .1 ≢ []
+  pub only : (s : Blanking ℕ) → s isIn L → (c : ℕ) → c isIn s .1 → c isIn missing q (s .0)
+  pub every : (t : ℕ) → t < tableCount q → (c : ℕ) → c isIn missing q t → (s : Blanking ℕ) × s isIn L × (s .0 ≡ t) × c isIn s .1
+
+-- "where nothing is missing, only the empty list is such a list"
+pub none-missing : (q : Query) (L : List (Blanking ℕ)) → StepList q L → ((t : ℕ) → t < tableCount q → missing q t ≡ []) → L ≡ []
+none-missing q [] x h = refl
+none-missing q (s ∷ L) x h = absurd (first (s .1) refl)
+  where
+    first : (C : List ℕ) → s .1 ≡ C → ⊥
+    first [] e = x .some s (here refl) e
+    first (c ∷ C) e = elim (subst (λ (l : List ℕ). c isIn l) (h (s .0) (x .table s (here refl)))
+        (x .only s (here refl) c (subst (λ (l : List ℕ). c isIn l) (sym e) (here refl)))) [ ]
+
+-- the engine's own list
+module _ (q : Query) where
+  own-elim : (s : Blanking ℕ) → s isIn blankings q → (s .0 < tableCount q) × (s .1 ≢ []) × (s .1 ≡ missing q (s .0))
+  unfolding blankings asks tableNumbers
+  own-elim s m =
+      let (k, h) = keep-elim (asks q) (map (λ t. (t, missing q t)) (range 0 (tableCount q))) m in
+      let (t, n, e) = map-elim (λ (t : ℕ). (t, missing q t)) (range 0 (tableCount q)) k in
+      let b : t < tableCount q = (let r = range-elim 0 (tableCount q) n in omega arith) in
+      subst (λ (z : Blanking ℕ). T (asks q z) → (z .0 < tableCount q) × (z .1 ≢ []) × (z .1 ≡ missing q (z .0))) e
+      (λ w. (b, asked (missing q t) w, refl)) h
+    where
+      asked : (C : List ℕ) → T (elim C [ [] ↦ false | k ∷ D ↦ true ]) → C ≢ []
+      asked [] w e = w
+      asked (k ∷ C) w e = nil≢cons (sym e)
+
+  pub own-list : StepList q (blankings q)
+  unfolding blankings asks tableNumbers
+  own-list = record {
+    table = λ s m. own-elim s m .0;
+    some = λ s m. own-elim s m .1;
+    only = λ s m c n. subst (λ (l : List ℕ). c isIn l) (own-elim s m .2) n;
+    every = λ t h c m. (
+      (t, missing q t),
+      keep-intro (asks q) (map-intro (λ (u : ℕ). (u, missing q u)) (range-intro 0 (tableCount q) t (omega arith) (omega arith))) (asks-some (missing q t) m),
+      refl,
+      m,
+    );
+  }
+    where
+      asks-some : (C : List ℕ) {c : ℕ} → c isIn C → T (elim C [ [] ↦ false | k ∷ D ↦ true ])
+      asks-some (k ∷ C) m = tt
