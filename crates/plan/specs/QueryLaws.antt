@@ -157,7 +157,7 @@ module _ (q : Query) (ok : Accepted q) where
           b,
           g .plain,
           (λ y c m t n. g .left-free y c m t (names c t .0 n)),
-          (λ y c m t n. g .right-free y c m t (names c t .0 n)),
+          (λ c m t n. g .right-free (g .plain) c m t (names c t .0 n)),
         )))
 
     -- the blanking sets are what the query's tree applies to its tables

@@ -4,3 +4,4 @@ pub mod Lines
 pub mod Reading
 pub mod Questions
 pub mod Print
+pub mod ReadingLaws

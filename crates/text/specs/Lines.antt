@@ -14,12 +14,20 @@ use Rattle.rows.specs.declared.kind.Kind.the-variants.{Inner, Outer}
 use Rattle.text.specs.Bytes.{Bytes, bytes, tab, lineFeed, sameBytes, split, closed}
 use Rattle.text.specs.Numbers.{small, constant, cell}
 
+-- the kinds of a J line: "`I` (inner) or `L` (left outer, left side preserved)"
+pub data JoinKind : Type 0 where
+  innerJoin leftOuterJoin : JoinKind
+
+unfoldable pub kindOf : JoinKind → Kind
+kindOf innerJoin = Inner
+kindOf leftOuterJoin = Outer
+
 -- a line and what it says: T with its count of columns, D with its cells, J with its kind and sides, C or K with its
 -- condition, P with its two nodes
 pub data Line : Type 0 where
   tableLine : ℕ → Line
   rowLine : List ℤ → Line
-  joinLine : Kind → ℕ → ℕ → Line
+  joinLine : JoinKind → ℕ → ℕ → Line
   conditionLine : Condition → Line
   orderLine : ℕ → ℕ → Line
 
@@ -72,9 +80,9 @@ word w = field (oneOf ((w, tt) ∷ []))
 unfoldable pub numberField : Form ℕ
 numberField = field small
 
--- "kind `I` (inner) or `L` (left outer, left side preserved)"
-unfoldable pub kindField : Form Kind
-kindField = field (oneOf (("I", Inner) ∷ ("L", Outer) ∷ []))
+-- the kind of a J line
+unfoldable pub kindField : Form JoinKind
+kindField = field (oneOf (("I", innerJoin) ∷ ("L", leftOuterJoin) ∷ []))
 
 -- "codes `<` 1, `=` 2, `<=` 3, `>` 4, `<>` 5, `>=` 6"
 unfoldable pub operatorField : Form ℕ

@@ -9,7 +9,7 @@ use lib.ListN.{length}
 use Rattle.cells.specs.declared.condition.Condition.{Condition}
 use Rattle.plan.specs.Report.{Table, Join, Pair, Report}
 use Rattle.text.specs.Bytes.{Bytes}
-use Rattle.text.specs.Lines.{Line, tableLine, rowLine, joinLine, conditionLine, orderLine, linesOf}
+use Rattle.text.specs.Lines.{Line, tableLine, rowLine, joinLine, conditionLine, orderLine, kindOf, linesOf}
 
 -- ---- places: "All T and D lines come first, then each J with its C and K lines, then P lines"
 
@@ -51,7 +51,7 @@ unfoldable pub joinsOf : ℕ → List Line → List ℕ × List Join
 joinsOf i [] = ([], [])
 joinsOf i (joinLine k a b ∷ ls) =
     let r = joinsOf i ls in
-    ([], record { kind = k; left = a; right = b; conditions = r .0 } ∷ r .1)
+    ([], record { kind = kindOf k; left = a; right = b; conditions = r .0 } ∷ r .1)
 joinsOf i (conditionLine c ∷ ls) = let r = joinsOf (suc i) ls in (i ∷ r .0, r .1)
 joinsOf i (tableLine n ∷ ls) = joinsOf i ls
 joinsOf i (rowLine zs ∷ ls) = joinsOf i ls

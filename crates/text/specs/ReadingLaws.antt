@@ -1,0 +1,63 @@
+-- What the reading of a text gives whatever the text: joins are inner or outer, and their conditions are conditions of the report;
+-- and what the lines without the order say. Assumes nothing.
+use mathlib.Core.Path.{_≡_, refl, sym, ap, ap₂, _∙_}
+use mathlib.Core.Bool.{Bool, true, false, not}
+use mathlib.Core.List.{List, [], _∷_}
+use Prim.Native.Nat.{ℕ, suc, _+_, _≤_, _<_}
+use native.Mathlib.Omega.{arith}
+use native.Mathlib.Nat.{add-suc, suc-add}
+use lib.IntN.{ℤ}
+use lib.ListN.{length}
+use Rattle.cells.specs.Choice.{if_then_else_}
+use Rattle.cells.specs.declared.condition.Condition.{Condition}
+use Rattle.rows.specs.Lists.{range, keep}
+use Rattle.rows.specs.ListLaws.{_isIn_, here, there, range-intro}
+use Rattle.rows.specs.Shapes.{BlanksRight}
+use Rattle.plan.specs.Report.{Table, Join, Query, Report, queryOf, conditionNumbers}
+use Rattle.plan.specs.SetLaws.{Numbered}
+use Rattle.plan.specs.QueryLaws.{WellRead}
+use Rattle.text.specs.Lines.{JoinKind, innerJoin, leftOuterJoin, kindOf, Line, tableLine, rowLine, joinLine, conditionLine, orderLine}
+use Rattle.text.specs.Reading.{tablesOf, joinsOf, conditionsOf, pairsOf, reportOf}
+
+-- a J line is no product
+line-plain : (k : JoinKind) → BlanksRight (kindOf k)
+unfolding kindOf
+line-plain innerJoin = tt
+line-plain leftOuterJoin = tt
+
+joins-plain : (i : ℕ) (ls : List Line) (j : Join) → j isIn (joinsOf i ls) .1 → BlanksRight (j .kind)
+unfolding joinsOf
+joins-plain i (joinLine k a b ∷ ls) j (here e) = rw e (line-plain k)
+joins-plain i (joinLine k a b ∷ ls) j (there m) = joins-plain i ls j m
+joins-plain i (conditionLine c ∷ ls) j m = joins-plain (suc i) ls j m
+joins-plain i (tableLine n ∷ ls) j m = joins-plain i ls j m
+joins-plain i (rowLine zs ∷ ls) j m = joins-plain i ls j m
+joins-plain i (orderLine a b ∷ ls) j m = joins-plain i ls j m
+
+-- condition numbers are counted from i on
+abbrev Counted : ℕ → List Line → ℕ → Type 0
+Counted i ls c = (i ≤ c) × (c < i + length (conditionsOf ls))
+
+first-counted : (i : ℕ) (ls : List Line) (c : ℕ) → c isIn (joinsOf i ls) .0 → Counted i ls c
+unfolding joinsOf conditionsOf
+first-counted i (conditionLine d ∷ ls) c (here e) = omega arith
+first-counted i (conditionLine d ∷ ls) c (there m) = let r = first-counted (suc i) ls c m in omega arith
+first-counted i (tableLine n ∷ ls) c m = first-counted i ls c m
+first-counted i (rowLine zs ∷ ls) c m = first-counted i ls c m
+first-counted i (orderLine a b ∷ ls) c m = first-counted i ls c m
+
+joins-counted : (i : ℕ) (ls : List Line) (j : Join) → j isIn (joinsOf i ls) .1 → (c : ℕ) → c isIn j .conditions → Counted i ls c
+unfolding joinsOf conditionsOf
+joins-counted i (joinLine k a b ∷ ls) j (here e) c m = first-counted i ls c (rw (ap (λ (x : Join). x .conditions) e) at m)
+joins-counted i (joinLine k a b ∷ ls) j (there n) c m = joins-counted i ls j n c m
+joins-counted i (conditionLine d ∷ ls) j n c m = let r = joins-counted (suc i) ls j n c m in omega arith
+joins-counted i (tableLine x ∷ ls) j n c m = joins-counted i ls j n c m
+joins-counted i (rowLine zs ∷ ls) j n c m = joins-counted i ls j n c m
+joins-counted i (orderLine a b ∷ ls) j n c m = joins-counted i ls j n c m
+
+pub report-well-read : (ls : List Line) → WellRead (queryOf (reportOf ls))
+unfolding queryOf reportOf conditionNumbers
+report-well-read ls j m = (
+  (λ c n. let r = joins-counted 0 ls j m c n in range-intro 0 (length (conditionsOf ls)) c (r .0) (r .1)),
+  joins-plain 0 ls j m,
+)
