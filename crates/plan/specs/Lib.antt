@@ -1,4 +1,5 @@
 pub mod Report
+pub mod Stored
 pub mod Nodes
 pub mod Sets
 pub mod Plan

@@ -1,2 +1,3 @@
 // The query of a report, its blanking sets and its plan.
+pub mod query;
 pub mod step;
