@@ -50,13 +50,15 @@ reportQuestions = sharedQuestions ++ orderQuestions ++ ((11, λ (r : Report). qu
 unfoldable pub directQuestions : List Question
 directQuestions = sharedQuestions ++ ((11, λ (r : Report). question11Direct r) ∷ [])
 
--- the outcome for a text, given the questions that come after question 2 and the answer to a report that passes them
+-- the outcome for a report, or for a text that question 2 turns down, given the questions that come after question 2 and the answer
+-- to a report that passes them
+unfoldable pub outcomeFor : {A : Type 0} → List Question → (Report → A) → Option Report → Outcome A
+outcomeFor questions answer none = refused 2
+outcomeFor questions answer (some r) = elim (firstNo questions r) [ some n ↦ refused n | none ↦ answered (answer r) ]
+
+-- the outcome for a text
 unfoldable pub outcomeBy : {A : Type 0} → List Question → (Report → A) → Bytes → Outcome A
-outcomeBy questions answer text =
-    elim (readReport text) [
-      | none ↦ refused 2
-      | some r ↦ elim (firstNo questions r) [ some n ↦ refused n | none ↦ answered (answer r) ]
-    ]
+outcomeBy questions answer text = outcomeFor questions answer (readReport text)
 
 -- what an answer of the engine holds: each table's set as bits, the plan, and the rows
 pub record ReportAnswer : Type 0 where

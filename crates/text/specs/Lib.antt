@@ -5,3 +5,4 @@ pub mod Reading
 pub mod Questions
 pub mod Print
 pub mod ReadingLaws
+pub mod QueryLines

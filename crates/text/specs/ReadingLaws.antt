@@ -1,6 +1,7 @@
 -- What the reading of a text gives whatever the text: joins are inner or outer, and their conditions are conditions of the report;
 -- and what the lines without the order say. Assumes nothing.
-use mathlib.Core.Path.{_≡_, refl, sym, ap, ap₂, _∙_}
+use mathlib.Core.Path.{_≡_, refl, sym, ap, subst}
+use mathlib.Core.Option.{Option, none, some}
 use mathlib.Core.Bool.{Bool, true, false, not}
 use mathlib.Core.List.{List, [], _∷_}
 use Prim.Native.Nat.{ℕ, suc, _+_, _≤_, _<_}
@@ -16,8 +17,9 @@ use Rattle.rows.specs.Shapes.{BlanksRight}
 use Rattle.plan.specs.Report.{Table, Join, Query, Report, queryOf, conditionNumbers}
 use Rattle.plan.specs.SetLaws.{Numbered}
 use Rattle.plan.specs.QueryLaws.{WellRead}
+use Rattle.text.specs.Bytes.{Bytes}
 use Rattle.text.specs.Lines.{JoinKind, innerJoin, leftOuterJoin, kindOf, Line, tableLine, rowLine, joinLine, conditionLine, orderLine}
-use Rattle.text.specs.Reading.{tablesOf, joinsOf, conditionsOf, pairsOf, reportOf}
+use Rattle.text.specs.Reading.{tablesOf, joinsOf, conditionsOf, pairsOf, reportOf, textLines, readReport}
 
 -- a J line is no product
 line-plain : (k : JoinKind) → BlanksRight (kindOf k)
@@ -61,3 +63,9 @@ report-well-read ls j m = (
   (λ c n. let r = joins-counted 0 ls j m c n in range-intro 0 (length (conditionsOf ls)) c (r .0) (r .1)),
   joins-plain 0 ls j m,
 )
+
+-- the report of a text that question 2 does not turn down is what its lines say
+pub read-report : (bs : Bytes) (ls : List Line) → textLines bs ≡ some ls → readReport bs ≡ some (reportOf ls)
+unfolding readReport
+read-report bs ls e = subst
+    (λ (x : Option (List Line)). _≡_ {A = Option Report} (elim x [ none ↦ none | some l ↦ some (reportOf l) ]) (some (reportOf ls))) (sym e) refl

@@ -1,0 +1,117 @@
+-- The proof of demand 3 from the theorem on joining orders (crate rows), the laws of the query and the plan (crate plan) and those of
+-- the report's conditions (crate run). Assumes nothing.
+use mathlib.Core.Path.{_≡_, refl, sym, ap, _∙_, subst}
+use mathlib.Core.Logic.{_⊎_, inl, inr}
+use mathlib.Core.List.{List, [], _∷_, _++_}
+use mathlib.Core.Option.{none, some}
+use Prim.Native.Nat.{ℕ, _≤_}
+use lib.Dec.{T}
+use Rattle.cells.specs.Row.{Row, blankRow}
+use Rattle.cells.specs.declared.condition.Condition.{Condition}
+use Rattle.rows.specs.ListLaws.{here, there}
+use Rattle.rows.specs.Nullification.{Blanking}
+use Rattle.plan.specs.Report.{Table, Join, Pair, Report, queryOf, tableCount, joinPairs}
+use Rattle.plan.specs.Plan.{blankings}
+use Rattle.plan.specs.Questions.{question5, question9, question10, noneOrBuilt, wellBuilt}
+use Rattle.plan.specs.QueryLaws.{Accepted}
+use Rattle.plan.specs.StepLists.{StepList, own-list}
+use Rattle.text.specs.Bytes.{Bytes}
+use Rattle.text.specs.Lines.{Line}
+use Rattle.text.specs.Reading.{textLines, reportOf}
+use Rattle.text.specs.QueryLines.{queryLines, same-tables, same-joins, same-conditions}
+use Rattle.text.specs.Questions.{question3}
+use Rattle.run.specs.Database.{rowsIn}
+use Rattle.run.specs.Runs.{directRows, runRows, reportRows, question11Direct, question11}
+use Rattle.run.specs.RunLaws.{direct-without-order, run-rows, kinds-fit}
+use Rattle.engine.specs.Answers.{Outcome, refused, answered, Question, firstNo, sharedQuestions, orderQuestions, directQuestions, reportQuestions, ReportAnswer, reportAnswer, reportOutcome, directOutcome}
+use Rattle.engine.specs.AnswerLaws.{all-yes, report-accepted, few-rows, none-then, last-question, outcome-answered, outcome-refused}
+use Rattle.engine.specs.Demand3.{SameQuery, Demand3}
+
+-- the direct reading of texts with the same query is the same
+pub direct-same : (a b : List Line) → queryLines a ≡ queryLines b → directRows (reportOf a) ≡ directRows (reportOf b)
+direct-same a b same =
+    direct-without-order (reportOf a .tables) (reportOf a .joins) (reportOf a .conditions) (reportOf a .pairs) (reportOf b .pairs)
+    ∙ fields (same-tables a b same) (same-joins a b same) (same-conditions a b same)
+  where
+    fields : {t u : List Table} {i j : List Join} {c d : List Condition} → t ≡ u → i ≡ j → c ≡ d
+        → directRows (record { tables = t; joins = i; conditions = c; pairs = reportOf b .pairs })
+        ≡ directRows (record { tables = u; joins = j; conditions = d; pairs = reportOf b .pairs })
+    fields e f g = rw (e, f, g)
+
+module _ (ls : List Line) (accepted : firstNo sharedQuestions (reportOf ls) ≡ none) where
+  few : (t : ℕ) → rowsIn (reportOf ls) t ≤ blankRow
+  unfolding sharedQuestions
+  few = few-rows (reportOf ls) (all-yes sharedQuestions (reportOf ls) accepted (3, λ (r : Report). question3 r) (here refl))
+
+  -- both runs of one accepted report whose order question 9 does not turn down
+  pub report-rows : T (question9 (queryOf (reportOf ls))) → (L : List (Blanking ℕ)) → StepList (queryOf (reportOf ls)) L
+      → runRows (reportOf ls) L ≡ directRows (reportOf ls)
+  report-rows = run-rows (reportOf ls) (report-accepted ls accepted) few
+
+  -- question 10 turns down no accepted report
+  pub question10-never : T (question10 (queryOf (reportOf ls)))
+  question10-never = kinds-fit (reportOf ls) (report-accepted ls accepted) few
+
+-- demand 3
+pub demand-3 : Demand3
+unfolding orderQuestions
+demand-3 first second a b s L list =
+    report-rows b (s .second-accepted) (all-yes orderQuestions (reportOf b) (s .order-admitted) (9, λ (r : Report). question9 (queryOf r)) (here refl)) L list
+    ∙ sym (direct-same a b (s .same-query))
+
+-- the engine's own list is one of these
+pub demand-3-own-list : (first second : Bytes) (a b : List Line) → SameQuery first second a b → reportRows (reportOf b) ≡ directRows (reportOf a)
+unfolding reportRows
+demand-3-own-list first second a b s = demand-3 first second a b s (blankings (queryOf (reportOf b))) (own-list (queryOf (reportOf b)))
+
+-- ---- the tree's own order
+
+-- a text with no P lines, or with the J pairs as its P lines
+abbrev pub OwnOrder : List Line → Type 0
+OwnOrder ls = (reportOf ls .pairs ≡ []) ⊎ (reportOf ls .pairs ≡ joinPairs (queryOf (reportOf ls)))
+
+own-order-admitted : (r : Report) → T (question5 (queryOf r)) → (r .pairs ≡ []) ⊎ (r .pairs ≡ joinPairs (queryOf r)) → T (question9 (queryOf r))
+unfolding question5 question9 queryOf noneOrBuilt joinPairs tableCount
+own-order-admitted r five (inl e) = rw e tt
+own-order-admitted r five (inr e) = rw e (built (joinPairs (queryOf r)) five)
+  where
+    built : (ps : List Pair) → T (wellBuilt (tableCount (queryOf r)) ps) → T (noneOrBuilt (tableCount (queryOf r)) ps)
+    built [] h = tt
+    built (p ∷ ps) h = h
+
+-- the tree's own order, with or without P lines, is admitted, and gives the rows of the tree read directly
+pub own-order-rows : (text : Bytes) (ls : List Line) → textLines text ≡ some ls → firstNo sharedQuestions (reportOf ls) ≡ none → OwnOrder ls
+    → (L : List (Blanking ℕ)) → StepList (queryOf (reportOf ls)) L → runRows (reportOf ls) L ≡ directRows (reportOf ls)
+own-order-rows text ls read accepted own L list =
+    report-rows ls accepted (own-order-admitted (reportOf ls) (report-accepted ls accepted .five) own) L list
+
+-- ---- what the two runs answer
+
+-- the direct reading of the first text and the engine on the second: one of them meets question 11, or both answer, with the same rows
+pub data RunsAgree (first second : Bytes) : Type 0 where
+  direct-limit : directOutcome first ≡ refused 11 → RunsAgree first second
+  report-limit : reportOutcome second ≡ refused 11 → RunsAgree first second
+  both-answer : (rows : List Row) (x : ReportAnswer) → directOutcome first ≡ answered rows → reportOutcome second ≡ answered x → x .rows ≡ rows
+      → RunsAgree first second
+
+pub runs-agree : (first second : Bytes) (a b : List Line) → SameQuery first second a b → RunsAgree first second
+unfolding directOutcome reportOutcome directQuestions reportQuestions reportAnswer
+runs-agree first second a b s = cases
+    (last-question sharedQuestions (11, λ (r : Report). question11Direct r) (reportOf a) (s .first-accepted))
+    (last-question (sharedQuestions ++ orderQuestions) (11, λ (r : Report). question11 r) (reportOf b)
+    (none-then sharedQuestions orderQuestions (reportOf b) (s .second-accepted) ∙ s .order-admitted))
+  where
+    D : List Question
+    D = sharedQuestions ++ ((11, λ (r : Report). question11Direct r) ∷ [])
+
+    R : List Question
+    R = sharedQuestions ++ orderQuestions ++ ((11, λ (r : Report). question11 r) ∷ [])
+
+    cases : (firstNo D (reportOf a) ≡ none) ⊎ (firstNo D (reportOf a) ≡ some 11)
+        → (firstNo R (reportOf b) ≡ none) ⊎ (firstNo R (reportOf b) ≡ some 11)
+        → RunsAgree first second
+    cases (inr e) x = direct-limit (outcome-refused D directRows first a (s .first-read) 11 e)
+    cases (inl e) (inr f) = report-limit (outcome-refused R reportAnswer second b (s .second-read) 11 f)
+    cases (inl e) (inl f) = both-answer (directRows (reportOf a)) (reportAnswer (reportOf b))
+        (outcome-answered D directRows first a (s .first-read) e) (outcome-answered R reportAnswer second b (s .second-read) f)
+        (demand-3-own-list first second a b s)
