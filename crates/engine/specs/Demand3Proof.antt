@@ -10,6 +10,8 @@ use Rattle.cells.specs.Row.{Row, blankRow}
 use Rattle.cells.specs.declared.condition.Condition.{Condition}
 use Rattle.rows.specs.ListLaws.{here, there}
 use Rattle.rows.specs.Nullification.{Blanking}
+use Rattle.rows.specs.Due.{Reads}
+use Rattle.plan.specs.Nodes.{joinTree}
 use Rattle.plan.specs.Report.{Table, Join, Pair, Report, queryOf, tableCount, joinPairs}
 use Rattle.plan.specs.Plan.{blankings}
 use Rattle.plan.specs.Questions.{question5, question9, question10, noneOrBuilt, wellBuilt}
@@ -20,9 +22,9 @@ use Rattle.text.specs.Lines.{Line}
 use Rattle.text.specs.Reading.{textLines, reportOf}
 use Rattle.text.specs.QueryLines.{queryLines, same-tables, same-joins, same-conditions}
 use Rattle.text.specs.Questions.{question3}
-use Rattle.run.specs.Database.{rowsIn}
+use Rattle.run.specs.Database.{rowsIn, database}
 use Rattle.run.specs.Runs.{directRows, runRows, reportRows, question11Direct, question11}
-use Rattle.run.specs.RunLaws.{direct-without-order, run-rows, kinds-fit}
+use Rattle.run.specs.RunLaws.{direct-without-order, run-rows, kinds-fit, direct-reads}
 use Rattle.engine.specs.Answers.{Outcome, refused, answered, Question, firstNo, sharedQuestions, orderQuestions, directQuestions, reportQuestions, ReportAnswer, reportAnswer, reportOutcome, directOutcome}
 use Rattle.engine.specs.AnswerLaws.{all-yes, report-accepted, few-rows, none-then, last-question, outcome-answered, outcome-refused}
 use Rattle.engine.specs.Demand3.{SameQuery, Demand3}
@@ -47,6 +49,10 @@ module _ (ls : List Line) (accepted : firstNo sharedQuestions (reportOf ls) ≡ 
   pub report-rows : T (question9 (queryOf (reportOf ls))) → (L : List (Blanking ℕ)) → StepList (queryOf (reportOf ls)) L
       → runRows (reportOf ls) L ≡ directRows (reportOf ls)
   report-rows = run-rows (reportOf ls) (report-accepted ls accepted) few
+
+  -- the tree read directly has each due row once and no other, in rising order
+  pub report-reads : Reads (database (reportOf ls)) (joinTree (queryOf (reportOf ls))) (directRows (reportOf ls))
+  report-reads = direct-reads (reportOf ls) (report-accepted ls accepted) few
 
   -- question 10 turns down no accepted report
   pub question10-never : T (question10 (queryOf (reportOf ls)))

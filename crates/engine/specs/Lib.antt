@@ -2,6 +2,9 @@ pub mod Answers
 pub mod Calls
 pub mod AnswerLaws
 pub mod Programs
+pub mod Computing
 pub mod Trials
 pub mod Demand3
 pub mod Demand3Proof
+pub mod Examples
+pub mod CallLaws

@@ -2,37 +2,15 @@
 -- In a `text`, | is a tab and a space parts two lines, as document 01 shows them; the last line is closed too.
 use mathlib.Core.Path.{_≡_, refl}
 use mathlib.Core.Bool.{Bool}
-use mathlib.Core.List.{List, [], _∷_, map, flatMap, zipWith}
+use mathlib.Core.List.{List, [], _∷_, map}
 use Prim.Native.Nat.{ℕ}
 use Prim.Native.Char.{code}
 use Prim.Native.String.{String, [] as []ˢ, _∷_ as _∷ˢ_}
 use lib.Dec.{eqb}
 use Rattle.cells.specs.Choice.{if_then_else_}
-use Rattle.text.specs.Bytes.{Bytes}
-use Rattle.cells.specs.Cell.{blankCell, lowestCell, highestCell, cellOf, eqZ, isBlank}
-use Rattle.cells.specs.Operator.{columnOf, outcomeOf, never, operators, says, holds}
-use Rattle.cells.specs.Row.{blankRow}
-use Rattle.cells.specs.Condition.{cellIn, sideIn, trueIn, sideNames, namesOf, ownCell, cellsIn}
-use Rattle.rows.specs.Lists.{range, all, any, keep, orElse, distinct, insert, sort, has}
-use Rattle.rows.specs.Rows.{single, over, merge, same, before, ordered, whollyBlank, within, dominated, bestMatch}
-use Rattle.rows.specs.Trees.{tablesUnder, outerProduct, allTrue, matches, joined, rowsOf}
-use Rattle.rows.specs.Nullification.{nullify, nullifyAll, finished, planRows}
-use Rattle.plan.specs.Report.{queryOf, tableCount, tableNumbers, conditionNumbers, noCondition, conditionAt, namedBy, joinPairs, orderOr, joinOrder}
-use Rattle.plan.specs.Nodes.{grown, tablesAt, tablesOfPair, nodesOf, joinNodes, orderNodes, treeAt, treeOf, treesOf, lastTree, joinTrees, joinTree}
-use Rattle.plan.specs.Sets.{setOf, blanksLeft, blanksRight, taken, setAfter, setsAfter, setsBy, emptySets, blankingSets}
-use Rattle.plan.specs.Plan.{between, crosses, inEvery, usable, paired, fitsKind, usableAt, allIn, planned, plannedJoins, planTrees, planTree, appliedSets, missing, asks, blankings}
-use Rattle.plan.specs.Steps.{bitsOf, kindNumber, pairStep, blankingStep, bestMatchStep, zeroStep, stepsOf}
-use Rattle.plan.specs.Questions.{lowerSides, sidesOf, noneTwice, wellBuilt, question5, noneOrBuilt, question9, columnExists, sideExists, conditionFits, question6, question7, rightSides, namesRightSide, question8, question10}
-use Rattle.text.specs.Bytes.{bytes, tab, lineFeed, sameBytes, cut, split, closed}
-use Rattle.text.specs.Numbers.{digit, decimal, valueOf, natural, small, positive, negative, number, ifMade, constant, cell}
-use Rattle.text.specs.Lines.{kindOf, field, oneOf, end, both, readAll, word, numberField, kindField, operatorField, cellFields, formT, formD, formJ, formC, formK, formP, firstOf, lineOf, linesOf}
-use Rattle.text.specs.Reading.{partOf, mayFollow, placed, tablesOf, joinsOf, conditionsOf, pairsOf, reportOf, ifPlaced, textLines, readReport}
-use Rattle.text.specs.Questions.{cellsInRows, cellsInTables, tableFits, question3, question4}
-use Rattle.text.specs.Print.{digitsOf, printNumber, printFields, hasBit, bitNumbers, printEntry, printSets, kindLetter, printStep, printRow, printRefusal}
-use Rattle.run.specs.Database.{databaseOf, tableAt, rowsIn, cellsOf, database}
-use Rattle.run.specs.Runs.{results, withinLimit, directRows, question11Direct, runRows, reportRows, pairCounts, reportSteps, question11}
-use Rattle.engine.specs.Answers.{firstNo, sharedQuestions, orderQuestions, reportQuestions, directQuestions, outcomeFor, outcomeBy, reportAnswer, reportOutcome, directOutcome}
-use Rattle.engine.specs.Programs.{printReport, printDirect, report, direct}
+use Rattle.text.specs.Bytes.{Bytes, tab, lineFeed}
+use Rattle.engine.specs.Computing.{computing}
+use Rattle.engine.specs.Programs.{report, direct}
 
 -- a byte of document 01's notation
 unfoldable pub notation : ℕ → ℕ
@@ -103,5 +81,5 @@ trials =
 
 -- every starred trial prints what document 01 says
 pub trials-hold : map prints trials ≡ map expects trials
-unfolding trials text notation flatMap zipWith blankCell lowestCell highestCell cellOf eqZ isBlank columnOf outcomeOf never operators says holds blankRow cellIn sideIn trueIn sideNames namesOf ownCell cellsIn range all any keep orElse distinct insert sort has single over merge same before ordered whollyBlank within dominated bestMatch tablesUnder outerProduct allTrue matches joined rowsOf nullify nullifyAll finished planRows queryOf tableCount tableNumbers conditionNumbers noCondition conditionAt namedBy joinPairs orderOr joinOrder grown tablesAt tablesOfPair nodesOf joinNodes orderNodes treeAt treeOf treesOf lastTree joinTrees joinTree setOf blanksLeft blanksRight taken setAfter setsAfter setsBy emptySets blankingSets between crosses inEvery usable paired fitsKind usableAt allIn planned plannedJoins planTrees planTree appliedSets missing asks blankings bitsOf kindNumber pairStep blankingStep bestMatchStep zeroStep stepsOf lowerSides sidesOf noneTwice wellBuilt question5 noneOrBuilt question9 columnExists sideExists conditionFits question6 question7 rightSides namesRightSide question8 question10 bytes tab lineFeed sameBytes cut split closed digit decimal valueOf natural small positive negative number ifMade constant cell kindOf field oneOf end both readAll word numberField kindField operatorField cellFields formT formD formJ formC formK formP firstOf lineOf linesOf partOf mayFollow placed tablesOf joinsOf conditionsOf pairsOf reportOf ifPlaced textLines readReport cellsInRows cellsInTables tableFits question3 question4 digitsOf printNumber printFields hasBit bitNumbers printEntry printSets kindLetter printStep printRow printRefusal databaseOf tableAt rowsIn cellsOf database results withinLimit directRows question11Direct runRows reportRows pairCounts reportSteps question11 firstNo sharedQuestions orderQuestions reportQuestions directQuestions outcomeFor outcomeBy reportAnswer reportOutcome directOutcome printReport printDirect report direct
+unfolding computing trials text notation
 trials-hold = refl

@@ -2,12 +2,13 @@
 -- Assumes nothing.
 use mathlib.Core.Path.{_≡_, refl, sym, ap, subst}
 use mathlib.Core.Logic.{_≢_}
-use mathlib.Core.Bool.{Bool, true, false}
+use mathlib.Core.Bool.{Bool, true, false, _&&_}
 use mathlib.Core.List.{List, [], _∷_, map, nil≢cons}
 use Prim.Native.Nat.{ℕ, _<_}
-use lib.Dec.{T}
-use Rattle.rows.specs.Lists.{range, keep}
-use Rattle.rows.specs.ListLaws.{_isIn_, here, there, keep-elim, keep-intro, map-intro, map-elim, range-intro, range-elim}
+use lib.Dec.{T, eqb, ltb}
+use mir.Facts.{and-yes, eqb-yes, ltb-yes}
+use Rattle.rows.specs.Lists.{range, all, any, keep, has}
+use Rattle.rows.specs.ListLaws.{_isIn_, here, there, all-elim, any-elim, has-elim, keep-elim, keep-intro, map-intro, map-elim, range-intro, range-elim}
 use Rattle.rows.specs.Nullification.{Blanking}
 use Rattle.plan.specs.Report.{Query, tableCount, tableNumbers}
 use Rattle.plan.specs.Plan.{missing, asks, blankings}
@@ -21,6 +22,15 @@ pub record StepList (q : Query) (L : List (Blanking ℕ)) : Type 0 where
   pub only : (s : Blanking ℕ) → s isIn L → (c : ℕ) → c isIn s .1 → c isIn missing q (s .0)
   pub every : (t : ℕ) → t < tableCount q → (c : ℕ) → c isIn missing q t → (s : Blanking ℕ) × s isIn L × (s .0 ≡ t) × c isIn s .1
 
+-- a step that asks something has a condition
+asks-some : (q : Query) (s : Blanking ℕ) → T (asks q s) → s .1 ≢ []
+unfolding asks
+asks-some q s = some (s .1)
+  where
+    some : (C : List ℕ) → T (elim C [ [] ↦ false | k ∷ D ↦ true ]) → C ≢ []
+    some [] h e = h
+    some (k ∷ C) h e = nil≢cons (sym e)
+
 -- "where nothing is missing, only the empty list is such a list"
 pub none-missing : (q : Query) (L : List (Blanking ℕ)) → StepList q L → ((t : ℕ) → t < tableCount q → missing q t ≡ []) → L ≡ []
 none-missing q [] x h = refl
@@ -31,7 +41,40 @@ none-missing q (s ∷ L) x h = absurd (first (s .1) refl)
     first (c ∷ C) e = elim (subst (λ (l : List ℕ). c isIn l) (h (s .0) (x .table s (here refl)))
         (x .only s (here refl) c (subst (λ (l : List ℕ). c isIn l) (sym e) (here refl)))) [ ]
 
--- the engine's own list
+-- ---- the same as a test that computes
+
+-- whether a list of steps is one that document 01 allows
+unfoldable pub isStepList : Query → List (Blanking ℕ) → Bool
+isStepList q L =
+    all (λ (s : Blanking ℕ). ltb (s .0) (tableCount q) && asks q s && all (has (missing q (s .0))) (s .1)) L
+    && all (λ t. all (λ c. any (λ (s : Blanking ℕ). eqb (s .0) t && has (s .1) c) L) (missing q t)) (tableNumbers q)
+
+pub step-list : (q : Query) (L : List (Blanking ℕ)) → T (isStepList q L) → StepList q L
+unfolding isStepList tableNumbers
+step-list q L h = record {
+  table = λ s m. ltb-yes (and-yes (ltb (s .0) (tableCount q)) (asks q s) (each s m .0) .0);
+  some = λ s m. asks-some q s (and-yes (ltb (s .0) (tableCount q)) (asks q s) (each s m .0) .1);
+  only = λ s m c n. has-elim (missing q (s .0)) c (all-elim (has (missing q (s .0))) (s .1) (each s m .1) c n);
+  every = λ t b c m.
+      let (s, n, k) = any-elim (λ (s : Blanking ℕ). eqb (s .0) t && has (s .1) c) L
+      (all-elim (λ c. any (λ (s : Blanking ℕ). eqb (s .0) t && has (s .1) c) L) (missing q t)
+      (all-elim (λ t. all (λ c. any (λ (s : Blanking ℕ). eqb (s .0) t && has (s .1) c) L) (missing q t)) (range 0 (tableCount q))
+      (parts .1) t (range-intro 0 (tableCount q) t (omega arith) (omega arith))) c m) in
+      let (e, d) = and-yes (eqb (s .0) t) (has (s .1) c) k in
+      (s, n, eqb-yes e, has-elim (s .1) c d);
+}
+  where
+    parts : T (all (λ (s : Blanking ℕ). ltb (s .0) (tableCount q) && asks q s && all (has (missing q (s .0))) (s .1)) L)
+        × T (all (λ t. all (λ c. any (λ (s : Blanking ℕ). eqb (s .0) t && has (s .1) c) L) (missing q t)) (range 0 (tableCount q)))
+    parts = and-yes (all (λ (s : Blanking ℕ). ltb (s .0) (tableCount q) && asks q s && all (has (missing q (s .0))) (s .1)) L)
+        (all (λ t. all (λ c. any (λ (s : Blanking ℕ). eqb (s .0) t && has (s .1) c) L) (missing q t)) (range 0 (tableCount q))) h
+
+    each : (s : Blanking ℕ) → s isIn L → T (ltb (s .0) (tableCount q) && asks q s) × T (all (has (missing q (s .0))) (s .1))
+    each s m = and-yes (ltb (s .0) (tableCount q) && asks q s) (all (has (missing q (s .0))) (s .1))
+        (all-elim (λ (s : Blanking ℕ). ltb (s .0) (tableCount q) && asks q s && all (has (missing q (s .0))) (s .1)) L (parts .0) s m)
+
+-- ---- the engine's own list
+
 module _ (q : Query) where
   own-elim : (s : Blanking ℕ) → s isIn blankings q → (s .0 < tableCount q) × (s .1 ≢ []) × (s .1 ≡ missing q (s .0))
   unfolding blankings asks tableNumbers
@@ -40,11 +83,7 @@ module _ (q : Query) where
       let (t, n, e) = map-elim (λ (t : ℕ). (t, missing q t)) (range 0 (tableCount q)) k in
       let b : t < tableCount q = (let r = range-elim 0 (tableCount q) n in omega arith) in
       subst (λ (z : Blanking ℕ). T (asks q z) → (z .0 < tableCount q) × (z .1 ≢ []) × (z .1 ≡ missing q (z .0))) e
-      (λ w. (b, asked (missing q t) w, refl)) h
-    where
-      asked : (C : List ℕ) → T (elim C [ [] ↦ false | k ∷ D ↦ true ]) → C ≢ []
-      asked [] w e = w
-      asked (k ∷ C) w e = nil≢cons (sym e)
+      (λ w. (b, asks-some q (t, missing q t) w, refl)) h
 
   pub own-list : StepList q (blankings q)
   unfolding blankings asks tableNumbers
@@ -54,11 +93,11 @@ module _ (q : Query) where
     only = λ s m c n. subst (λ (l : List ℕ). c isIn l) (own-elim s m .2) n;
     every = λ t h c m. (
       (t, missing q t),
-      keep-intro (asks q) (map-intro (λ (u : ℕ). (u, missing q u)) (range-intro 0 (tableCount q) t (omega arith) (omega arith))) (asks-some (missing q t) m),
+      keep-intro (asks q) (map-intro (λ (u : ℕ). (u, missing q u)) (range-intro 0 (tableCount q) t (omega arith) (omega arith))) (some-asked (missing q t) m),
       refl,
       m,
     );
   }
     where
-      asks-some : (C : List ℕ) {c : ℕ} → c isIn C → T (elim C [ [] ↦ false | k ∷ D ↦ true ])
-      asks-some (k ∷ C) m = tt
+      some-asked : (C : List ℕ) {c : ℕ} → c isIn C → T (elim C [ [] ↦ false | k ∷ D ↦ true ])
+      some-asked (k ∷ C) m = tt

@@ -7,11 +7,12 @@ use Rattle.cells.specs.Row.{Row, blankRow}
 use Rattle.cells.specs.declared.condition.Condition.{Condition}
 use Rattle.rows.specs.Rows.{ordered}
 use Rattle.rows.specs.Trees.{rowsOf}
+use Rattle.rows.specs.Due.{Reads, direct-reading}
 use Rattle.rows.specs.Nullification.{Blanking, planRows}
 use Rattle.plan.specs.Report.{Table, Join, Report, queryOf, tableCount, tableNumbers, conditionAt}
 use Rattle.plan.specs.Nodes.{treesOf, joinTrees, joinTree}
 use Rattle.plan.specs.Questions.{question9, question10}
-use Rattle.plan.specs.QueryLaws.{Accepted}
+use Rattle.plan.specs.QueryLaws.{Accepted, query-shaped}
 use Rattle.plan.specs.StepLists.{StepList}
 use Rattle.plan.specs.Reordering.{same-rows, question10-yes}
 use Rattle.run.specs.Database.{databaseOf, tableAt, rowsIn, cellsOf, database}
@@ -36,3 +37,10 @@ module _ (r : Report) (ok : Accepted (queryOf r)) (few : (t : ℕ) → rowsIn r 
   unfolding runRows directRows database
   run-rows nine L list = same-rows (queryOf r) ok (lawful (queryOf r) (rowsIn r) (cellsOf r) few)
       (database-width (queryOf r) (rowsIn r) (cellsOf r) few) (lawful-names (queryOf r) (rowsIn r) (cellsOf r) few) nine L list
+
+  -- the direct reading has each due row once and no other, in rising order
+  pub direct-reads : Reads (database r) (joinTree (queryOf r)) (directRows r)
+  unfolding directRows database
+  direct-reads = direct-reading (lawful (queryOf r) (rowsIn r) (cellsOf r) few) (joinTree (queryOf r))
+      (query-shaped (queryOf r) ok (lawful (queryOf r) (rowsIn r) (cellsOf r) few)
+      (database-width (queryOf r) (rowsIn r) (cellsOf r) few) (lawful-names (queryOf r) (rowsIn r) (cellsOf r) few))
