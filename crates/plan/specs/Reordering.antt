@@ -27,11 +27,11 @@ use Rattle.plan.specs.StepLists.{StepList}
 -- a missing condition is in the table's set and not in its applied set
 pub missing-elim : (q : Query) (t c : ℕ) → c isIn missing q t → c isIn setOf (blankingSets q) t
 unfolding missing
-missing-elim q t c m = keep-elim (λ (k : ℕ). not (has (setOf (appliedSets q) t) k)) (setOf (blankingSets q) t) m .0
+missing-elim q t c m = keep-elim _ (setOf (blankingSets q) t) m .0
 
 pub missing-intro : (q : Query) (t c : ℕ) → c isIn setOf (blankingSets q) t → ¬ (c isIn setOf (appliedSets q) t) → c isIn missing q t
 unfolding missing
-missing-intro q t c m n = keep-intro (λ (k : ℕ). not (has (setOf (appliedSets q) t) k)) m
+missing-intro q t c m n = keep-intro _ m
     (not-T (has (setOf (appliedSets q) t) c) (λ h. n (has-elim (setOf (appliedSets q) t) c h)))
 
 module _ (q : Query) (ok : Accepted q) {D : Database ℕ} (laws : Lawful D) (wide : tableCount q ≡ D .width)

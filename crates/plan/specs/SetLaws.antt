@@ -55,14 +55,14 @@ module _ (q : Query) where
   taken-elim : (C : List ℕ) (S : Sets) (other mine : List ℕ) (k : ℕ) → k isIn taken q C S other mine → k isIn mine ⊎ Gains C S other k
   unfolding taken namedBy
   taken-elim C S other mine k m =
-      let (i, h) = keep-elim (λ (c : ℕ). has mine c || has C c || any (λ u. has other u && has (setOf S u) c) (namedBy q C)) (conditionNumbers q) m in
+      let (i, h) = keep-elim _ (conditionNumbers q) m in
       ⊎-elim (λ x. ⊎-map (has-elim mine k) (λ y. inl (has-elim C k y)) (or-yes (has mine k) (has C k) x))
       (λ x.
-      let (u, n, b) = any-elim (λ (u : ℕ). has other u && has (setOf S u) k) (namedBy q C) x in
-      let (o, s) = and-yes (has other u) (has (setOf S u) k) b in
+      let (u, n, b) = any-elim _ (namedBy q C) x in
+      let (o, s) = and-yes (has other u) _ b in
       let (d, e, f) = flatMap-elim (λ (c : ℕ). namesOf (conditionAt q c)) C n in
       inr (inr (d, u, e, f, has-elim other u o, has-elim (setOf S u) k s)))
-      (or-yes (has mine k || has C k) (any (λ u. has other u && has (setOf S u) k) (namedBy q C)) h)
+      (or-yes (has mine k || has C k) _ h)
 
   taken-intro : (C : List ℕ) (S : Sets) (other mine : List ℕ) (k : ℕ) → k isIn conditionNumbers q → k isIn mine ⊎ Gains C S other k
       → k isIn taken q C S other mine
