@@ -1,2 +1,3 @@
 // The two exported routines, the report and the direct reading, and their print.
 pub mod answer;
+pub mod clear;
