@@ -63,7 +63,7 @@ unfolding reportOutcome outcomeBy reportQuestions sharedQuestions orderQuestions
 report-number text n e = outcome-number reportQuestions reportAnswer (readReport text) tt n e
 
 direct-number : (text : Bytes) (n : ℕ) → directOutcome text ≡ refused n → (1 ≤ n) × (n ≤ 11)
-unfolding directOutcome outcomeBy directQuestions sharedQuestions numbered all
+unfolding directOutcome outcomeBy directQuestions sharedQuestions orderQuestions numbered all
 direct-number text n e = outcome-number directQuestions directRows (readReport text) tt n e
 
 module _ (text : Bytes) (m : Lent) where
