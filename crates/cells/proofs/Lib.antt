@@ -1,3 +1,5 @@
 pub mod Ints
 pub mod Lists
 pub mod Numbers
+pub mod Walks
+pub mod Views

@@ -1,5 +1,6 @@
-// Cells, the operators that compare them, and conditions in a row.
+// Cells, the operators that compare them, tables, and conditions in a row.
 pub mod cell;
 pub mod condition;
 pub mod operator;
 pub mod row;
+pub mod table;
