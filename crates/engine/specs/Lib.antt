@@ -8,3 +8,4 @@ pub mod Demand3
 pub mod Demand3Proof
 pub mod Examples
 pub mod CallLaws
+pub mod Demand3Calls
