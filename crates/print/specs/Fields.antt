@@ -1,0 +1,72 @@
+-- The fields of a line without its line feed, as the code appends them. They serve the code; no demand cites them. The laws
+-- say how the lines of the print are made of them.
+-- Assumes nothing.
+use mathlib.Core.Path.{_≡_, refl, sym, ap, _∙_}
+use mathlib.Core.List.{List, [], _∷_, _++_, map, flatMap, append-assoc, append-nil}
+use Prim.Native.Nat.{ℕ, zero, suc, _+_, _-_, _/_, _%_, _^_, _≤_, _<_}
+use native.Mathlib.Numerals.{sub-one}
+use native.Mathlib.Omega.{arith}
+use borrow.Author.Tests.{le-leb, lt-leb, eq-eqb, ne-eqb}
+use Rattle.cells.specs.Row.{blankRow}
+use Rattle.rows.specs.Lists.{keep}
+use Rattle.text.specs.Bytes.{Bytes, bytes, tab, lineFeed}
+use Rattle.text.specs.Print.{printFields, printNumber, digitsOf, printEntry, hasBit, bitNumbers}
+use Rattle.print.specs.Loops.{upTo, upTo-keep}
+
+-- a field behind its tab
+unfoldable pub field : Bytes → Bytes
+field f = tab ∷ f
+
+-- a number's field
+unfoldable pub numberField : ℕ → Bytes
+numberField n = field (printNumber n)
+
+-- a line's fields, and its line feed
+pub fields-then : {A : Type 0} (g : A → Bytes) (l : List A) → printFields (map g l) ≡ flatMap (λ x. field (g x)) l ++ (lineFeed ∷ [])
+unfolding printFields field flatMap
+fields-then g [] = refl
+fields-then g (x ∷ l) = rw (fields-then g l) (sym (append-assoc (tab ∷ g x) (flatMap (λ x. field (g x)) l) (lineFeed ∷ [])))
+
+-- ---- a number's digits
+
+pub digits-none : (most n : ℕ) → most ≡ 0 → digitsOf most n ≡ []
+unfolding digitsOf
+digits-none most n e = ap (λ (k : ℕ). digitsOf k n) e
+
+pub digits-last : (most n : ℕ) → 0 < most → n ≤ 9 → digitsOf most n ≡ (48 + n) ∷ []
+unfolding digitsOf
+digits-last zero n p h = absurd (omega arith)
+digits-last (suc most) n p h = rw (digitsOf, le-leb n 9 h)
+
+pub digits-more : (most n : ℕ) → 0 < most → 9 < n → digitsOf most n ≡ digitsOf (most - 1) (n / 10) ++ ((48 + n % 10) ∷ [])
+unfolding digitsOf
+digits-more zero n p h = absurd (omega arith)
+digits-more (suc most) n p h = rw (digitsOf, lt-leb n 9 h, sub-one (suc most))
+
+-- ---- an entry of a row
+
+pub entry-blank : (x : ℕ) → x ≡ blankRow → field (printEntry x) ≡ tab ∷ 45 ∷ []
+unfolding field printEntry bytes
+entry-blank x e = rw (eq-eqb x blankRow e)
+
+pub entry-number : (x : ℕ) → (x ≡ blankRow → ⊥) → field (printEntry x) ≡ field (printNumber x)
+unfolding printEntry
+entry-number x e = rw (ne-eqb x blankRow e)
+
+-- ---- the numbers of the bits that are set
+
+-- a bit's number, if it is set
+unfoldable pub bitField : ℕ → ℕ → Bytes
+bitField m k = flatMap numberField (keep (hasBit m) (k ∷ []))
+
+pub bit-set : (m k : ℕ) → m / 2 ^ k % 2 ≡ 1 → bitField m k ≡ numberField k
+unfolding bitField keep hasBit flatMap
+bit-set m k e = rw (eq-eqb (m / 2 ^ k % 2) 1 e) (append-nil (numberField k))
+
+pub bit-clear : (m k : ℕ) → (m / 2 ^ k % 2 ≡ 1 → ⊥) → bitField m k ≡ []
+unfolding bitField keep hasBit flatMap
+bit-clear m k e = rw (ne-eqb (m / 2 ^ k % 2) 1 e)
+
+pub bits-all : (m : ℕ) → upTo (bitField m) 64 ≡ flatMap numberField (bitNumbers m)
+unfolding bitField bitNumbers
+bits-all m = upTo-keep (hasBit m) numberField 64

@@ -1,0 +1,86 @@
+-- What a loop appends: the bytes of each number below a bound, one after the other. It serves the code; no demand cites it.
+-- The laws say that this agrees with lists that are gone through from the front.
+-- Assumes nothing.
+use mathlib.Core.Path.{_≡_, refl, sym, ap, ap₂, _∙_}
+use mathlib.Core.List.{List, [], _∷_, _++_, map, flatMap, append-assoc, append-nil, map-append}
+use mathlib.Core.Bool.{Bool, true, false}
+use Prim.Native.Nat.{ℕ, zero, suc, _+_, _*_, _≤_, _<_}
+use native.Mathlib.Nat.{add-zero, add-suc, suc-add, zero-add, mul-suc}
+use native.Mathlib.Numerals.{add-one}
+use native.Mathlib.Omega.{arith}
+use lib.ListN.{length, take, drop, getD}
+use lib.Seq.{take-suc}
+use Rattle.cells.specs.Choice.{if_then_else_}
+use Rattle.rows.specs.Lists.{range, keep}
+use Rattle.text.specs.Bytes.{Bytes}
+use Rattle.print.specs.Output.{Written, written-then, written-as}
+
+unfoldable pub upTo : (ℕ → Bytes) → ℕ → Bytes
+upTo f zero = []
+upTo f (suc n) = upTo f n ++ f n
+
+-- a turn of the loop
+pub written-turn : {w w′ w″ : List ℕ} {at r r′ : ℕ} (f : ℕ → Bytes) (k room : ℕ) → Written w at (upTo f k) (room * k) w′ r
+    → Written w′ r (f k) room w″ r′ → Written w at (upTo f (k + 1)) (room * (k + 1)) w″ r′
+unfolding upTo
+written-turn f k room p q =
+    let e : room * (k + 1) ≡ room * k + room = ap (λ (n : ℕ). room * n) (add-one k) ∙ mul-suc room k in
+    written-as (rw (add-one k)) (omega arith) (written-then p q)
+
+-- the first number's bytes, and those of the others
+pub upTo-first : (f : ℕ → Bytes) (n : ℕ) → upTo f (suc n) ≡ f 0 ++ upTo (λ k. f (suc k)) n
+unfolding upTo
+upTo-first f zero = sym (append-nil (f 0))
+upTo-first f (suc n) = rw (upTo-first f n) (append-assoc (f 0) (upTo (λ k. f (suc k)) n) (f (suc n)))
+
+pub upTo-same : (f g : ℕ → Bytes) → ((k : ℕ) → f k ≡ g k) → (n : ℕ) → upTo f n ≡ upTo g n
+unfolding upTo
+upTo-same f g h zero = refl
+upTo-same f g h (suc n) = ap₂ (λ (a b : Bytes). a ++ b) (upTo-same f g h n) (h n)
+
+module _ {A B : Type 0} (g : A → List B) where
+  pub flatMap-append : (l m : List A) → flatMap g (l ++ m) ≡ flatMap g l ++ flatMap g m
+  unfolding flatMap
+  flatMap-append [] m = refl
+  flatMap-append (x ∷ l) m = rw (flatMap-append l m) (sym (append-assoc (g x) (flatMap g l) (flatMap g m)))
+
+  pub flatMap-one : (x : A) → flatMap g (x ∷ []) ≡ g x
+  unfolding flatMap
+  flatMap-one x = append-nil (g x)
+
+-- the bytes of each of the first elements of a list
+pub upTo-flatMap : {A : Type 0} (g : A → Bytes) (l : List A) (d : A) (n : ℕ) → n ≤ length l
+    → upTo (λ k. g (getD l k d)) n ≡ flatMap g (take n l)
+unfolding upTo flatMap
+upTo-flatMap g l d zero h = refl
+upTo-flatMap g l d (suc n) h =
+    rw (take-suc l n d (omega arith), flatMap-append g (take n l) (getD l n d ∷ []), flatMap-one g (getD l n d))
+    (ap (λ (b : Bytes). b ++ g (getD l n d)) (upTo-flatMap g l d n (omega arith)))
+
+-- ---- selections from a range
+
+pub range-last : (s n : ℕ) → range s (suc n) ≡ range s n ++ ((s + n) ∷ [])
+unfolding range
+range-last s zero = rw (add-zero s)
+range-last s (suc n) = ap (λ (l : List ℕ). s ∷ l) (range-last (suc s) n ∙ rw (suc-add s n, add-suc s n))
+
+pub keep-append : {A : Type 0} (p : A → Bool) (l m : List A) → keep p (l ++ m) ≡ keep p l ++ keep p m
+unfolding keep
+keep-append p [] m = refl
+keep-append {A} p (x ∷ l) m = go (p x) (keep-append p l m)
+  where
+    go : (b : Bool) → keep p (l ++ m) ≡ keep p l ++ keep p m
+        → (if b then x ∷ keep p (l ++ m) else keep p (l ++ m)) ≡ (if b then x ∷ keep p l else keep p l) ++ keep p m
+    go true e = ap (λ (z : List A). x ∷ z) e
+    go false e = e
+
+-- the bytes of the numbers below a bound of which p is true
+pub upTo-keep : (p : ℕ → Bool) (g : ℕ → Bytes) (n : ℕ) → upTo (λ k. flatMap g (keep p (k ∷ []))) n ≡ flatMap g (keep p (range 0 n))
+unfolding upTo flatMap range keep
+upTo-keep p g zero = refl
+upTo-keep p g (suc n) =
+    let e : range 0 (suc n) ≡ range 0 n ++ (n ∷ []) = range-last 0 n ∙ ap (λ (k : ℕ). range 0 n ++ (k ∷ [])) (zero-add n) in
+    ap (λ (b : Bytes). b ++ flatMap g (keep p (n ∷ []))) (upTo-keep p g n)
+    ∙ sym (flatMap-append g (keep p (range 0 n)) (keep p (n ∷ [])))
+    ∙ ap (flatMap g) (sym (keep-append p (range 0 n) (n ∷ [])))
+    ∙ ap (λ (l : List ℕ). flatMap g (keep p l)) (sym e)

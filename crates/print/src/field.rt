@@ -1,0 +1,78 @@
+// The fields of a line, each behind its tab.
+use crate::output;
+ghost use Prim.Native.Nat.{_+_, _<_, _≤_};
+ghost use lib.ListN.{length};
+ghost use mathlib.Core.List.{flatMap};
+ghost use Rattle.text.specs.Print.{digitsOf, printNumber, printEntry, bitNumbers};
+ghost use Rattle.print.specs.Output.{Written};
+ghost use Rattle.print.specs.Fields.{field, numberField, bitField};
+
+pub const TAB: u8 = b'\t';
+
+pub const LINE_FEED: u8 = b'\n';
+
+const ZERO: u8 = b'0';
+
+// The most digits of a number of the print.
+const DIGITS: usize = 5;
+
+// The decimal digits of a number that has at most so many.
+fn write_digits(out: &mut [u8], at: usize, most: usize, n: u16) -> usize
+    requires { ⌜ at + most ≤ length (now out) ⌝ }
+    ensures { λ r. ⌜ Written (now (out .entry)) at (digitsOf most n) most (now (out .exit)) r ⌝ }
+{
+    if most == 0 {
+        return at;
+    }
+    if n <= 9 {
+        return output::put(out, at, ZERO + (n as u8));
+    }
+    let next = write_digits(out, at, most - 1, n / 10);
+    output::put(out, next, ZERO + ((n % 10) as u8))
+}
+
+// A number.
+pub fn write_number(out: &mut [u8], at: usize, n: u16) -> usize
+    requires { ⌜ at + 6 ≤ length (now out) ⌝ }
+    ensures { λ r. ⌜ Written (now (out .entry)) at (field (printNumber n)) 6 (now (out .exit)) r ⌝ }
+{
+    let next = output::put(out, at, TAB);
+    write_digits(out, next, DIGITS, n)
+}
+
+// An entry of a row: a row number or blank.
+pub fn write_entry(out: &mut [u8], at: usize, x: u16) -> usize
+    requires { ⌜ at + 6 ≤ length (now out) ⌝ }
+    ensures { λ r. ⌜ Written (now (out .entry)) at (field (printEntry x)) 6 (now (out .exit)) r ⌝ }
+{
+    if x == cells::row::BLANK {
+        let next = output::put(out, at, TAB);
+        return output::put(out, next, b'-');
+    }
+    write_number(out, at, x)
+}
+
+// The number of a bit, if the bit is set.
+fn write_bit(out: &mut [u8], at: usize, bits: u64, k: u16) -> usize
+    requires { ⌜ (k < 64) × (at + 6 ≤ length (now out)) ⌝ }
+    ensures { λ r. ⌜ Written (now (out .entry)) at (bitField bits k) 6 (now (out .exit)) r ⌝ }
+{
+    if (bits >> k) % 2 == 1 {
+        return write_number(out, at, k);
+    }
+    at
+}
+
+// The numbers of the bits that are set.
+pub fn write_bits(out: &mut [u8], at: usize, bits: u64) -> usize
+    requires { ⌜ at + 384 ≤ length (now out) ⌝ }
+    ensures { λ r. ⌜ Written (now (out .entry)) at (flatMap numberField (bitNumbers bits)) 384 (now (out .exit)) r ⌝ }
+{
+    let mut next = at;
+    let mut k: u16 = 0;
+    while k < 64 {
+        next = write_bit(out, next, bits, k);
+        k += 1;
+    }
+    next
+}

@@ -1,0 +1,3 @@
+// The print of a report, written into a lent output buffer.
+pub mod field;
+pub mod output;
