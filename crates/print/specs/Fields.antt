@@ -7,11 +7,13 @@ use Prim.Native.Nat.{ℕ, zero, suc, _+_, _-_, _/_, _%_, _^_, _≤_, _<_}
 use native.Mathlib.Numerals.{sub-one}
 use native.Mathlib.Omega.{arith}
 use borrow.Author.Tests.{le-leb, lt-leb, eq-eqb, ne-eqb}
+use lib.ListN.{length, take, drop, getD, length-drop}
+use lib.Seq.{getD-drop}
 use Rattle.cells.specs.Row.{blankRow}
 use Rattle.rows.specs.Lists.{keep}
 use Rattle.text.specs.Bytes.{Bytes, bytes, tab, lineFeed}
 use Rattle.text.specs.Print.{printFields, printNumber, digitsOf, printEntry, hasBit, bitNumbers}
-use Rattle.print.specs.Loops.{upTo, upTo-keep}
+use Rattle.print.specs.Loops.{upTo, upTo-same, upTo-flatMap, upTo-keep}
 
 -- a field behind its tab
 unfoldable pub field : Bytes → Bytes
@@ -20,6 +22,10 @@ field f = tab ∷ f
 -- a number's field
 unfoldable pub numberField : ℕ → Bytes
 numberField n = field (printNumber n)
+
+-- a row's entry in its field
+unfoldable pub entryField : ℕ → Bytes
+entryField x = field (printEntry x)
 
 -- a line's fields, and its line feed
 pub fields-then : {A : Type 0} (g : A → Bytes) (l : List A) → printFields (map g l) ≡ flatMap (λ x. field (g x)) l ++ (lineFeed ∷ [])
@@ -45,12 +51,12 @@ digits-more (suc most) n p h = rw (digitsOf, lt-leb n 9 h, sub-one (suc most))
 
 -- ---- an entry of a row
 
-pub entry-blank : (x : ℕ) → x ≡ blankRow → field (printEntry x) ≡ tab ∷ 45 ∷ []
-unfolding field printEntry bytes
+pub entry-blank : (x : ℕ) → x ≡ blankRow → entryField x ≡ tab ∷ 45 ∷ []
+unfolding entryField field printEntry bytes
 entry-blank x e = rw (eq-eqb x blankRow e)
 
-pub entry-number : (x : ℕ) → (x ≡ blankRow → ⊥) → field (printEntry x) ≡ field (printNumber x)
-unfolding printEntry
+pub entry-number : (x : ℕ) → (x ≡ blankRow → ⊥) → entryField x ≡ numberField x
+unfolding entryField numberField printEntry
 entry-number x e = rw (ne-eqb x blankRow e)
 
 -- ---- the numbers of the bits that are set
@@ -70,3 +76,11 @@ bit-clear m k e = rw (ne-eqb (m / 2 ^ k % 2) 1 e)
 pub bits-all : (m : ℕ) → upTo (bitField m) 64 ≡ flatMap numberField (bitNumbers m)
 unfolding bitField bitNumbers
 bits-all m = upTo-keep (hasBit m) numberField 64
+
+-- the entries of the row of n numbers that stands at a place
+pub entries-all : (l : List ℕ) (from n : ℕ) → from + n ≤ length l
+    → upTo (λ j. entryField (getD l (from + j) 0)) n ≡ flatMap entryField (take n (drop from l))
+entries-all l from n h =
+    upTo-same (λ j. entryField (getD l (from + j) 0)) (λ j. entryField (getD (drop from l) j 0))
+    (λ j. ap entryField (sym (getD-drop from l j 0))) n
+    ∙ upTo-flatMap entryField (drop from l) 0 n (rw (length-drop from l) (omega arith))

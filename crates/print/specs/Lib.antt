@@ -1,3 +1,5 @@
 pub mod Output
 pub mod Loops
 pub mod Fields
+pub mod Lines
+pub mod Rows

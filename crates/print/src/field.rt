@@ -3,9 +3,9 @@ use crate::output;
 ghost use Prim.Native.Nat.{_+_, _<_, _≤_};
 ghost use lib.ListN.{length};
 ghost use mathlib.Core.List.{flatMap};
-ghost use Rattle.text.specs.Print.{digitsOf, printNumber, printEntry, bitNumbers};
+ghost use Rattle.text.specs.Print.{digitsOf, bitNumbers};
 ghost use Rattle.print.specs.Output.{Written};
-ghost use Rattle.print.specs.Fields.{field, numberField, bitField};
+ghost use Rattle.print.specs.Fields.{numberField, entryField, bitField};
 
 pub const TAB: u8 = b'\t';
 
@@ -34,7 +34,7 @@ fn write_digits(out: &mut [u8], at: usize, most: usize, n: u16) -> usize
 // A number.
 pub fn write_number(out: &mut [u8], at: usize, n: u16) -> usize
     requires { ⌜ at + 6 ≤ length (now out) ⌝ }
-    ensures { λ r. ⌜ Written (now (out .entry)) at (field (printNumber n)) 6 (now (out .exit)) r ⌝ }
+    ensures { λ r. ⌜ Written (now (out .entry)) at (numberField n) 6 (now (out .exit)) r ⌝ }
 {
     let next = output::put(out, at, TAB);
     write_digits(out, next, DIGITS, n)
@@ -43,7 +43,7 @@ pub fn write_number(out: &mut [u8], at: usize, n: u16) -> usize
 // An entry of a row: a row number or blank.
 pub fn write_entry(out: &mut [u8], at: usize, x: u16) -> usize
     requires { ⌜ at + 6 ≤ length (now out) ⌝ }
-    ensures { λ r. ⌜ Written (now (out .entry)) at (field (printEntry x)) 6 (now (out .exit)) r ⌝ }
+    ensures { λ r. ⌜ Written (now (out .entry)) at (entryField x) 6 (now (out .exit)) r ⌝ }
 {
     if x == cells::row::BLANK {
         let next = output::put(out, at, TAB);

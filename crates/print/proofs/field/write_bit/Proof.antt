@@ -2,7 +2,7 @@
 use mathlib.Core.Path.{sym}
 use native.Mathlib.Omega.{arith}
 use Rattle.print.specs.Output.{written-as, written-none}
-use Rattle.print.specs.Fields.{numberField, bit-set, bit-clear}
+use Rattle.print.specs.Fields.{bit-set, bit-clear}
 use borrow.Author.Needs.{needs}
 use Rattle.print.proofs.field.write_bit.Statement.{statement}
 use Rattle.print.proofs.field.write_bit.Tie as tie
@@ -17,7 +17,6 @@ same-length : tie.Need-same-length
 same-length c = search needs
 
 returns : tie.Need-returns
-unfolding numberField
 returns c =
     let d = c .before .before in
     written-as (sym (bit-set _ _ (d .before .before .if1 .taken))) (omega arith) (d .write-number .ensures)

@@ -1,7 +1,7 @@
 -- `print::field::write_bits` meets its contract. The invariant: the numbers of the bits below k are written. The measure is what is
 -- left of the bits. Assumes nothing.
 use mathlib.Core.Path.{_≡_, refl, _∙_, ap}
-use Prim.Native.Nat.{ℕ, _≤_, _-_, _*_}
+use Prim.Native.Nat.{_≤_, _-_, _*_}
 use native.Mathlib.Omega.{arith}
 use lib.ListN.{length}
 use Rattle.print.specs.Output.{Written, written-as, written-none}

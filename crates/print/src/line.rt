@@ -1,0 +1,115 @@
+// The lines of the print.
+use crate::field;
+use crate::output;
+use plan::step::Step;
+ghost use mathlib.Core.List.{[], _∷_, _++_, map, flatMap};
+ghost use Prim.Native.Nat.{_+_, _*_, _<_, _≤_};
+ghost use lib.ListN.{length, take, drop};
+ghost use Rattle.text.specs.Bytes.{bytes};
+ghost use Rattle.text.specs.Print.{bitNumbers, printFields, printNumber, kindLetter, printStep, printRow, printRefusal};
+ghost use Rattle.print.specs.Output.{Written};
+ghost use Rattle.print.specs.Fields.{field, entryField};
+
+// The end of a line: a number, the numbers of the conditions, and the line feed.
+fn write_end(out: &mut [u8], at: usize, number: u16, conditions: u64) -> usize
+    requires { ⌜ at + 391 ≤ length (now out) ⌝ }
+    ensures { λ r. ⌜ Written (now (out .entry)) at (printFields (map printNumber (number ∷ bitNumbers conditions))) 391 (now (out .exit)) r ⌝ }
+{
+    let mut next = field::write_number(out, at, number);
+    next = field::write_bits(out, next, conditions);
+    output::put(out, next, field::LINE_FEED)
+}
+
+// A line of a table and a set of conditions: S, and B of a blanking step.
+pub fn write_table(out: &mut [u8], at: usize, letter: u8, table: u16, conditions: u64) -> usize
+    requires { ⌜ at + 392 ≤ length (now out) ⌝ }
+    ensures { λ r. ⌜ Written (now (out .entry)) at (letter ∷ printFields (map printNumber (table ∷ bitNumbers conditions))) 392 (now (out .exit)) r ⌝ }
+{
+    let next = output::put(out, at, letter);
+    write_end(out, next, table, conditions)
+}
+
+// The letters of the kinds of a pair, by their numbers.
+const KINDS: [u8; 4] = [b' ', b'I', b'L', b'O'];
+
+// A pair's letter (I, L, or O for product) behind its tab; the number 0 has none.
+fn write_kind(out: &mut [u8], at: usize, kind: u8) -> usize
+    requires { ⌜ (kind ≤ 3) × (at + 2 ≤ length (now out)) ⌝ }
+    ensures { λ r. ⌜ Written (now (out .entry)) at (field (kindLetter kind)) 2 (now (out .exit)) r ⌝ }
+{
+    let next = output::put(out, at, field::TAB);
+    if kind == 0 {
+        return next;
+    }
+    output::put(out, next, KINDS[kind as usize])
+}
+
+// A pair's line.
+fn write_pair(out: &mut [u8], at: usize, s: Step) -> usize
+    requires { ⌜ (s .kind ≤ 3) × (at + 406 ≤ length (now out)) ⌝ }
+    ensures { λ r. ⌜ Written (now (out .entry)) at (printStep s) 406 (now (out .exit)) r ⌝ }
+{
+    let mut next = output::put(out, at, b'M');
+    next = write_kind(out, next, s.kind);
+    next = field::write_number(out, next, s.first as u16);
+    next = field::write_number(out, next, s.second as u16);
+    write_end(out, next, s.rows, s.conditions)
+}
+
+// The line of best match.
+fn write_best_match(out: &mut [u8], at: usize) -> usize
+    requires { ⌜ at + 2 ≤ length (now out) ⌝ }
+    ensures { λ r. ⌜ Written (now (out .entry)) at (bytes "Z" ++ printFields []) 2 (now (out .exit)) r ⌝ }
+{
+    let next = output::put(out, at, b'Z');
+    output::put(out, next, field::LINE_FEED)
+}
+
+// A step's line.
+pub fn write_step(out: &mut [u8], at: usize, s: Step) -> usize
+    requires { ⌜ at + 406 ≤ length (now out) ⌝ }
+    ensures { λ r. ⌜ Written (now (out .entry)) at (printStep s) 406 (now (out .exit)) r ⌝ }
+{
+    let kind = s.kind;
+    if kind <= 3 {
+        return write_pair(out, at, s);
+    }
+    if kind == 4 {
+        return write_table(out, at, b'B', s.first as u16, s.conditions);
+    }
+    write_best_match(out, at)
+}
+
+// The entries of the row that stands at `from`.
+fn write_entries(out: &mut [u8], at: usize, rows: &[u16], from: usize, n: usize) -> usize
+    requires { ⌜ (from + n ≤ length (now rows)) × (n ≤ 8) × (at + 6 * n ≤ length (now out)) ⌝ }
+    ensures { λ r. ⌜ Written (now (out .entry)) at (flatMap entryField (take n (drop from (now (rows .entry))))) (6 * n) (now (out .exit)) r ⌝ }
+{
+    let mut next = at;
+    let mut j = 0;
+    while j < n {
+        next = field::write_entry(out, next, rows[from + j]);
+        j += 1;
+    }
+    next
+}
+
+// The line of the row of n entries that stands at `from`.
+pub fn write_row(out: &mut [u8], at: usize, rows: &[u16], from: usize, n: usize) -> usize
+    requires { ⌜ (from + n ≤ length (now rows)) × (n ≤ 8) × (at + 50 ≤ length (now out)) ⌝ }
+    ensures { λ r. ⌜ Written (now (out .entry)) at (printRow (take n (drop from (now (rows .entry))))) 50 (now (out .exit)) r ⌝ }
+{
+    let mut next = output::put(out, at, b'R');
+    next = write_entries(out, next, rows, from, n);
+    output::put(out, next, field::LINE_FEED)
+}
+
+// The line of a refusal.
+pub fn write_refusal(out: &mut [u8], at: usize, number: u8) -> usize
+    requires { ⌜ at + 8 ≤ length (now out) ⌝ }
+    ensures { λ r. ⌜ Written (now (out .entry)) at (printRefusal number) 8 (now (out .exit)) r ⌝ }
+{
+    let mut next = output::put(out, at, b'E');
+    next = field::write_number(out, next, number as u16);
+    output::put(out, next, field::LINE_FEED)
+}

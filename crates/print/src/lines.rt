@@ -1,0 +1,58 @@
+// The lines of all tables, of all steps and of all rows.
+use crate::line;
+use cells::condition::TABLES;
+use plan::step::Step;
+ghost use mathlib.Core.List.{flatMap};
+ghost use Prim.Native.Nat.{_+_, _*_, _≤_};
+ghost use lib.ListN.{length, take};
+ghost use Rattle.text.specs.Print.{printSets, printStep, printRow};
+ghost use Rattle.print.specs.Output.{Written};
+ghost use Rattle.print.specs.Rows.{rowsIn};
+
+// The most steps that a plan has.
+pub const STEPS: usize = 16;
+
+// The S lines of the first n tables.
+pub fn write_sets(out: &mut [u8], at: usize, sets: [u64; TABLES], n: usize) -> usize
+    requires { ⌜ (n ≤ 8) × (at + 392 * n ≤ length (now out)) ⌝ }
+    ensures { λ r. ⌜ Written (now (out .entry)) at (printSets 0 (take n sets)) (392 * n) (now (out .exit)) r ⌝ }
+{
+    let mut next = at;
+    let mut t = 0;
+    while t < n {
+        next = line::write_table(out, next, b'S', t as u16, sets[t]);
+        t += 1;
+    }
+    next
+}
+
+// The lines of the first n steps.
+pub fn write_steps(out: &mut [u8], at: usize, steps: [Step; STEPS], n: usize) -> usize
+    requires { ⌜ (n ≤ 16) × (at + 406 * n ≤ length (now out)) ⌝ }
+    ensures { λ r. ⌜ Written (now (out .entry)) at (flatMap printStep (take n steps)) (406 * n) (now (out .exit)) r ⌝ }
+{
+    let mut next = at;
+    let mut k = 0;
+    while k < n {
+        let s = steps[k];
+        next = line::write_step(out, next, s);
+        k += 1;
+    }
+    next
+}
+
+// The R lines of so many rows of n entries, which stand one after the other.
+pub fn write_rows(out: &mut [u8], at: usize, result: &[u16], rows: usize, n: usize) -> usize
+    requires { ⌜ (rows ≤ 256) × (n ≤ 8) × (rows * n ≤ length (now result)) × (at + 50 * rows ≤ length (now out)) ⌝ }
+    ensures { λ r. ⌜ Written (now (out .entry)) at (flatMap printRow (rowsIn n rows (now (result .entry)))) (50 * rows) (now (out .exit)) r ⌝ }
+{
+    let mut next = at;
+    let mut from = 0;
+    let mut i = 0;
+    while i < rows {
+        next = line::write_row(out, next, result, from, n);
+        from += n;
+        i += 1;
+    }
+    next
+}
