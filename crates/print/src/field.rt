@@ -5,6 +5,7 @@ ghost use lib.ListN.{length};
 ghost use mathlib.Core.List.{flatMap};
 ghost use Rattle.text.specs.Print.{digitsOf, bitNumbers};
 ghost use Rattle.print.specs.Output.{Written};
+ghost use Rattle.print.specs.Room.{fieldRoom, bitsRoom};
 ghost use Rattle.print.specs.Fields.{numberField, entryField, bitField};
 
 pub const TAB: u8 = b'\t';
@@ -33,8 +34,8 @@ fn write_digits(out: &mut [u8], at: usize, most: usize, n: u16) -> usize
 
 // A number.
 pub fn write_number(out: &mut [u8], at: usize, n: u16) -> usize
-    requires { ⌜ at + 6 ≤ length (now out) ⌝ }
-    ensures { λ r. ⌜ Written (now (out .entry)) at (numberField n) 6 (now (out .exit)) r ⌝ }
+    requires { ⌜ at + fieldRoom ≤ length (now out) ⌝ }
+    ensures { λ r. ⌜ Written (now (out .entry)) at (numberField n) fieldRoom (now (out .exit)) r ⌝ }
 {
     let next = output::put(out, at, TAB);
     write_digits(out, next, DIGITS, n)
@@ -42,8 +43,8 @@ pub fn write_number(out: &mut [u8], at: usize, n: u16) -> usize
 
 // An entry of a row: a row number or blank.
 pub fn write_entry(out: &mut [u8], at: usize, x: u16) -> usize
-    requires { ⌜ at + 6 ≤ length (now out) ⌝ }
-    ensures { λ r. ⌜ Written (now (out .entry)) at (entryField x) 6 (now (out .exit)) r ⌝ }
+    requires { ⌜ at + fieldRoom ≤ length (now out) ⌝ }
+    ensures { λ r. ⌜ Written (now (out .entry)) at (entryField x) fieldRoom (now (out .exit)) r ⌝ }
 {
     if x == cells::row::BLANK {
         let next = output::put(out, at, TAB);
@@ -54,8 +55,8 @@ pub fn write_entry(out: &mut [u8], at: usize, x: u16) -> usize
 
 // The number of a bit, if the bit is set.
 fn write_bit(out: &mut [u8], at: usize, bits: u64, k: u16) -> usize
-    requires { ⌜ (k < 64) × (at + 6 ≤ length (now out)) ⌝ }
-    ensures { λ r. ⌜ Written (now (out .entry)) at (bitField bits k) 6 (now (out .exit)) r ⌝ }
+    requires { ⌜ (k < 64) × (at + fieldRoom ≤ length (now out)) ⌝ }
+    ensures { λ r. ⌜ Written (now (out .entry)) at (bitField bits k) fieldRoom (now (out .exit)) r ⌝ }
 {
     if (bits >> k) % 2 == 1 {
         return write_number(out, at, k);
@@ -65,8 +66,8 @@ fn write_bit(out: &mut [u8], at: usize, bits: u64, k: u16) -> usize
 
 // The numbers of the bits that are set.
 pub fn write_bits(out: &mut [u8], at: usize, bits: u64) -> usize
-    requires { ⌜ at + 384 ≤ length (now out) ⌝ }
-    ensures { λ r. ⌜ Written (now (out .entry)) at (flatMap numberField (bitNumbers bits)) 384 (now (out .exit)) r ⌝ }
+    requires { ⌜ at + bitsRoom ≤ length (now out) ⌝ }
+    ensures { λ r. ⌜ Written (now (out .entry)) at (flatMap numberField (bitNumbers bits)) bitsRoom (now (out .exit)) r ⌝ }
 {
     let mut next = at;
     let mut k: u16 = 0;

@@ -3,3 +3,4 @@ pub mod field;
 pub mod line;
 pub mod lines;
 pub mod output;
+pub mod whole;

@@ -8,12 +8,13 @@ ghost use lib.ListN.{length, take, drop};
 ghost use Rattle.text.specs.Bytes.{bytes};
 ghost use Rattle.text.specs.Print.{bitNumbers, printFields, printNumber, kindLetter, printStep, printRow, printRefusal};
 ghost use Rattle.print.specs.Output.{Written};
+ghost use Rattle.print.specs.Room.{fieldRoom, endRoom, tableRoom, kindRoom, bestMatchRoom, stepRoom, rowRoom, refusalRoom};
 ghost use Rattle.print.specs.Fields.{field, entryField};
 
 // The end of a line: a number, the numbers of the conditions, and the line feed.
 fn write_end(out: &mut [u8], at: usize, number: u16, conditions: u64) -> usize
-    requires { ⌜ at + 391 ≤ length (now out) ⌝ }
-    ensures { λ r. ⌜ Written (now (out .entry)) at (printFields (map printNumber (number ∷ bitNumbers conditions))) 391 (now (out .exit)) r ⌝ }
+    requires { ⌜ at + endRoom ≤ length (now out) ⌝ }
+    ensures { λ r. ⌜ Written (now (out .entry)) at (printFields (map printNumber (number ∷ bitNumbers conditions))) endRoom (now (out .exit)) r ⌝ }
 {
     let mut next = field::write_number(out, at, number);
     next = field::write_bits(out, next, conditions);
@@ -22,8 +23,8 @@ fn write_end(out: &mut [u8], at: usize, number: u16, conditions: u64) -> usize
 
 // A line of a table and a set of conditions: S, and B of a blanking step.
 pub fn write_table(out: &mut [u8], at: usize, letter: u8, table: u16, conditions: u64) -> usize
-    requires { ⌜ at + 392 ≤ length (now out) ⌝ }
-    ensures { λ r. ⌜ Written (now (out .entry)) at (letter ∷ printFields (map printNumber (table ∷ bitNumbers conditions))) 392 (now (out .exit)) r ⌝ }
+    requires { ⌜ at + tableRoom ≤ length (now out) ⌝ }
+    ensures { λ r. ⌜ Written (now (out .entry)) at (letter ∷ printFields (map printNumber (table ∷ bitNumbers conditions))) tableRoom (now (out .exit)) r ⌝ }
 {
     let next = output::put(out, at, letter);
     write_end(out, next, table, conditions)
@@ -34,8 +35,8 @@ const KINDS: [u8; 4] = [b' ', b'I', b'L', b'O'];
 
 // A pair's letter (I, L, or O for product) behind its tab; the number 0 has none.
 fn write_kind(out: &mut [u8], at: usize, kind: u8) -> usize
-    requires { ⌜ (kind ≤ 3) × (at + 2 ≤ length (now out)) ⌝ }
-    ensures { λ r. ⌜ Written (now (out .entry)) at (field (kindLetter kind)) 2 (now (out .exit)) r ⌝ }
+    requires { ⌜ (kind ≤ 3) × (at + kindRoom ≤ length (now out)) ⌝ }
+    ensures { λ r. ⌜ Written (now (out .entry)) at (field (kindLetter kind)) kindRoom (now (out .exit)) r ⌝ }
 {
     let next = output::put(out, at, field::TAB);
     if kind == 0 {
@@ -46,8 +47,8 @@ fn write_kind(out: &mut [u8], at: usize, kind: u8) -> usize
 
 // A pair's line.
 fn write_pair(out: &mut [u8], at: usize, s: Step) -> usize
-    requires { ⌜ (s .kind ≤ 3) × (at + 406 ≤ length (now out)) ⌝ }
-    ensures { λ r. ⌜ Written (now (out .entry)) at (printStep s) 406 (now (out .exit)) r ⌝ }
+    requires { ⌜ (s .kind ≤ 3) × (at + stepRoom ≤ length (now out)) ⌝ }
+    ensures { λ r. ⌜ Written (now (out .entry)) at (printStep s) stepRoom (now (out .exit)) r ⌝ }
 {
     let mut next = output::put(out, at, b'M');
     next = write_kind(out, next, s.kind);
@@ -58,8 +59,8 @@ fn write_pair(out: &mut [u8], at: usize, s: Step) -> usize
 
 // The line of best match.
 fn write_best_match(out: &mut [u8], at: usize) -> usize
-    requires { ⌜ at + 2 ≤ length (now out) ⌝ }
-    ensures { λ r. ⌜ Written (now (out .entry)) at (bytes "Z" ++ printFields []) 2 (now (out .exit)) r ⌝ }
+    requires { ⌜ at + bestMatchRoom ≤ length (now out) ⌝ }
+    ensures { λ r. ⌜ Written (now (out .entry)) at (bytes "Z" ++ printFields []) bestMatchRoom (now (out .exit)) r ⌝ }
 {
     let next = output::put(out, at, b'Z');
     output::put(out, next, field::LINE_FEED)
@@ -67,8 +68,8 @@ fn write_best_match(out: &mut [u8], at: usize) -> usize
 
 // A step's line.
 pub fn write_step(out: &mut [u8], at: usize, s: Step) -> usize
-    requires { ⌜ at + 406 ≤ length (now out) ⌝ }
-    ensures { λ r. ⌜ Written (now (out .entry)) at (printStep s) 406 (now (out .exit)) r ⌝ }
+    requires { ⌜ at + stepRoom ≤ length (now out) ⌝ }
+    ensures { λ r. ⌜ Written (now (out .entry)) at (printStep s) stepRoom (now (out .exit)) r ⌝ }
 {
     let kind = s.kind;
     if kind <= 3 {
@@ -82,8 +83,8 @@ pub fn write_step(out: &mut [u8], at: usize, s: Step) -> usize
 
 // The entries of the row that stands at `from`.
 fn write_entries(out: &mut [u8], at: usize, rows: &[u16], from: usize, n: usize) -> usize
-    requires { ⌜ (from + n ≤ length (now rows)) × (n ≤ 8) × (at + 6 * n ≤ length (now out)) ⌝ }
-    ensures { λ r. ⌜ Written (now (out .entry)) at (flatMap entryField (take n (drop from (now (rows .entry))))) (6 * n) (now (out .exit)) r ⌝ }
+    requires { ⌜ (from + n ≤ length (now rows)) × (n ≤ 8) × (at + fieldRoom * n ≤ length (now out)) ⌝ }
+    ensures { λ r. ⌜ Written (now (out .entry)) at (flatMap entryField (take n (drop from (now (rows .entry))))) (fieldRoom * n) (now (out .exit)) r ⌝ }
 {
     let mut next = at;
     let mut j = 0;
@@ -96,8 +97,8 @@ fn write_entries(out: &mut [u8], at: usize, rows: &[u16], from: usize, n: usize)
 
 // The line of the row of n entries that stands at `from`.
 pub fn write_row(out: &mut [u8], at: usize, rows: &[u16], from: usize, n: usize) -> usize
-    requires { ⌜ (from + n ≤ length (now rows)) × (n ≤ 8) × (at + 50 ≤ length (now out)) ⌝ }
-    ensures { λ r. ⌜ Written (now (out .entry)) at (printRow (take n (drop from (now (rows .entry))))) 50 (now (out .exit)) r ⌝ }
+    requires { ⌜ (from + n ≤ length (now rows)) × (n ≤ 8) × (at + rowRoom ≤ length (now out)) ⌝ }
+    ensures { λ r. ⌜ Written (now (out .entry)) at (printRow (take n (drop from (now (rows .entry))))) rowRoom (now (out .exit)) r ⌝ }
 {
     let mut next = output::put(out, at, b'R');
     next = write_entries(out, next, rows, from, n);
@@ -106,8 +107,8 @@ pub fn write_row(out: &mut [u8], at: usize, rows: &[u16], from: usize, n: usize)
 
 // The line of a refusal.
 pub fn write_refusal(out: &mut [u8], at: usize, number: u8) -> usize
-    requires { ⌜ at + 8 ≤ length (now out) ⌝ }
-    ensures { λ r. ⌜ Written (now (out .entry)) at (printRefusal number) 8 (now (out .exit)) r ⌝ }
+    requires { ⌜ at + refusalRoom ≤ length (now out) ⌝ }
+    ensures { λ r. ⌜ Written (now (out .entry)) at (printRefusal number) refusalRoom (now (out .exit)) r ⌝ }
 {
     let mut next = output::put(out, at, b'E');
     next = field::write_number(out, next, number as u16);

@@ -7,6 +7,7 @@ ghost use Prim.Native.Nat.{_+_, _*_, _≤_};
 ghost use lib.ListN.{length, take};
 ghost use Rattle.text.specs.Print.{printSets, printStep, printRow};
 ghost use Rattle.print.specs.Output.{Written};
+ghost use Rattle.print.specs.Room.{tableRoom, stepRoom, rowRoom};
 ghost use Rattle.print.specs.Rows.{rowsIn};
 
 // The most steps that a plan has.
@@ -14,8 +15,8 @@ pub const STEPS: usize = 16;
 
 // The S lines of the first n tables.
 pub fn write_sets(out: &mut [u8], at: usize, sets: [u64; TABLES], n: usize) -> usize
-    requires { ⌜ (n ≤ 8) × (at + 392 * n ≤ length (now out)) ⌝ }
-    ensures { λ r. ⌜ Written (now (out .entry)) at (printSets 0 (take n sets)) (392 * n) (now (out .exit)) r ⌝ }
+    requires { ⌜ (n ≤ 8) × (at + tableRoom * n ≤ length (now out)) ⌝ }
+    ensures { λ r. ⌜ Written (now (out .entry)) at (printSets 0 (take n sets)) (tableRoom * n) (now (out .exit)) r ⌝ }
 {
     let mut next = at;
     let mut t = 0;
@@ -28,8 +29,8 @@ pub fn write_sets(out: &mut [u8], at: usize, sets: [u64; TABLES], n: usize) -> u
 
 // The lines of the first n steps.
 pub fn write_steps(out: &mut [u8], at: usize, steps: [Step; STEPS], n: usize) -> usize
-    requires { ⌜ (n ≤ 16) × (at + 406 * n ≤ length (now out)) ⌝ }
-    ensures { λ r. ⌜ Written (now (out .entry)) at (flatMap printStep (take n steps)) (406 * n) (now (out .exit)) r ⌝ }
+    requires { ⌜ (n ≤ 16) × (at + stepRoom * n ≤ length (now out)) ⌝ }
+    ensures { λ r. ⌜ Written (now (out .entry)) at (flatMap printStep (take n steps)) (stepRoom * n) (now (out .exit)) r ⌝ }
 {
     let mut next = at;
     let mut k = 0;
@@ -43,8 +44,8 @@ pub fn write_steps(out: &mut [u8], at: usize, steps: [Step; STEPS], n: usize) ->
 
 // The R lines of so many rows of n entries, which stand one after the other.
 pub fn write_rows(out: &mut [u8], at: usize, result: &[u16], rows: usize, n: usize) -> usize
-    requires { ⌜ (rows ≤ 256) × (n ≤ 8) × (rows * n ≤ length (now result)) × (at + 50 * rows ≤ length (now out)) ⌝ }
-    ensures { λ r. ⌜ Written (now (out .entry)) at (flatMap printRow (rowsIn n rows (now (result .entry)))) (50 * rows) (now (out .exit)) r ⌝ }
+    requires { ⌜ (rows ≤ 256) × (n ≤ 8) × (rows * n ≤ length (now result)) × (at + rowRoom * rows ≤ length (now out)) ⌝ }
+    ensures { λ r. ⌜ Written (now (out .entry)) at (flatMap printRow (rowsIn n rows (now (result .entry)))) (rowRoom * rows) (now (out .exit)) r ⌝ }
 {
     let mut next = at;
     let mut from = 0;

@@ -5,6 +5,7 @@ use Prim.Native.Nat.{_≤_, _-_, _*_}
 use native.Mathlib.Omega.{arith}
 use lib.ListN.{length}
 use Rattle.print.specs.Output.{Written, written-as, written-none}
+use Rattle.print.specs.Room.{fieldRoom}
 use Rattle.print.specs.Loops.{upTo, written-turn}
 use Rattle.print.specs.Fields.{bitField, bits-all}
 use borrow.Author.Needs.{needs}
@@ -13,7 +14,7 @@ use Rattle.print.proofs.field.write_bits.Tie as tie
 
 abbrev Inv-loop : tie.InvT-loop
 Inv-loop out₀ at bits next₀ k₀ out next k =
-    (k ≤ 64) × (length out ≡ length out₀) × Written out₀ at (upTo (bitField bits) k) (6 * k) out next
+    (k ≤ 64) × (length out ≡ length out₀) × Written out₀ at (upTo (bitField bits) k) (fieldRoom * k) out next
 
 abbrev μ-loop : tie.MeasureT-loop
 μ-loop out₀ at bits next₀ k₀ out next k = 64 - k
@@ -35,7 +36,7 @@ loop-again : tie.Need-loop-again Inv-loop μ-loop
 loop-again c =
     let d = c .before .before in
     let l = d .before .before .before in
-    (omega arith, search needs, written-turn (bitField _) (l .loop .k) 6 (l .loop .inv .2) (d .write-bit .ensures))
+    (omega arith, search needs, written-turn (bitField _) (l .loop .k) fieldRoom (l .loop .inv .2) (d .write-bit .ensures))
 
 same-length : tie.Need-same-length Inv-loop μ-loop
 same-length c = c .before .loop .inv .1

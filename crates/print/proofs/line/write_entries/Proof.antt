@@ -6,6 +6,7 @@ use native.Mathlib.Omega.{arith}
 use denote.Ref.{now}
 use lib.ListN.{length, getD}
 use Rattle.print.specs.Output.{Written, written-as, written-none}
+use Rattle.print.specs.Room.{fieldRoom}
 use Rattle.print.specs.Loops.{upTo, written-turn}
 use Rattle.print.specs.Fields.{entryField, entries-all}
 use borrow.Author.Needs.{needs}
@@ -16,7 +17,7 @@ abbrev Inv-loop : tie.InvT-loop
 Inv-loop out₀ at rows from n next₀ j₀ out next j =
     (j ≤ n)
     × (length out ≡ length out₀)
-    × Written out₀ at (upTo (λ i. entryField (getD rows (from + i) 0)) j) (6 * j) out next
+    × Written out₀ at (upTo (λ i. entryField (getD rows (from + i) 0)) j) (fieldRoom * j) out next
 
 abbrev μ-loop : tie.MeasureT-loop
 μ-loop out₀ at rows from n next₀ j₀ out next j = n - j
@@ -50,7 +51,7 @@ loop-again c =
     let a = l .before .before .before .args in (
       omega arith,
       search needs,
-      written-turn (λ i. entryField (getD (now (a .rows)) (a .from + i) 0)) (l .loop .j) 6 (l .loop .inv .2) (d .write-entry .ensures),
+      written-turn (λ i. entryField (getD (now (a .rows)) (a .from + i) 0)) (l .loop .j) fieldRoom (l .loop .inv .2) (d .write-entry .ensures),
     )
 
 same-length : tie.Need-same-length Inv-loop μ-loop

@@ -8,6 +8,7 @@ use native.Mathlib.Numerals.{add-one}
 use denote.Ref.{now}
 use lib.ListN.{length, take, drop}
 use Rattle.print.specs.Output.{Written, written-as, written-none}
+use Rattle.print.specs.Room.{rowRoom}
 use Rattle.print.specs.Loops.{upTo, written-turn}
 use Rattle.text.specs.Print.{printRow}
 use Rattle.print.specs.Rows.{row-fits, rows-all}
@@ -20,7 +21,7 @@ Inv-loop out₀ at result rows n next₀ from₀ i₀ out next from i =
     (i ≤ rows)
     × (from ≡ i * n)
     × (length out ≡ length out₀)
-    × Written out₀ at (upTo (λ k. printRow (take n (drop (k * n) result))) i) (50 * i) out next
+    × Written out₀ at (upTo (λ k. printRow (take n (drop (k * n) result))) i) (rowRoom * i) out next
 
 abbrev μ-loop : tie.MeasureT-loop
 μ-loop out₀ at result rows n next₀ from₀ i₀ out next from i = rows - i
@@ -58,8 +59,8 @@ loop-again c =
       omega arith,
       omega (arith, e, l .loop .inv .1),
       search needs,
-      written-turn (λ k. printRow (take (a .n) (drop (k * a .n) (now (a .result))))) (l .loop .i) 50 (l .loop .inv .3)
-          (written-as (ap (λ (j : ℕ). printRow (take (a .n) (drop j (now (a .result))))) (l .loop .inv .1)) (le-refl 50) (d .write-row .ensures)),
+      written-turn (λ k. printRow (take (a .n) (drop (k * a .n) (now (a .result))))) (l .loop .i) rowRoom (l .loop .inv .3)
+          (written-as (ap (λ (j : ℕ). printRow (take (a .n) (drop j (now (a .result))))) (l .loop .inv .1)) (le-refl rowRoom) (d .write-row .ensures)),
     )
 
 same-length : tie.Need-same-length Inv-loop μ-loop

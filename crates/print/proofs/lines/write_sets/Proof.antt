@@ -5,6 +5,7 @@ use Prim.Native.Nat.{_≤_, _-_, _*_}
 use native.Mathlib.Omega.{arith}
 use lib.ListN.{length, getD}
 use Rattle.print.specs.Output.{Written, written-as, written-none}
+use Rattle.print.specs.Room.{tableRoom}
 use Rattle.print.specs.Loops.{upTo, written-turn}
 use Rattle.print.specs.Lines.{setLine, sets-all}
 use borrow.Author.Needs.{needs}
@@ -13,7 +14,7 @@ use Rattle.print.proofs.lines.write_sets.Tie as tie
 
 abbrev Inv-loop : tie.InvT-loop
 Inv-loop out₀ at n sets next₀ t₀ out next t =
-    (t ≤ n) × (length out ≡ length out₀) × Written out₀ at (upTo (λ i. setLine i (getD sets i 0)) t) (392 * t) out next
+    (t ≤ n) × (length out ≡ length out₀) × Written out₀ at (upTo (λ i. setLine i (getD sets i 0)) t) (tableRoom * t) out next
 
 abbrev μ-loop : tie.MeasureT-loop
 μ-loop out₀ at n sets next₀ t₀ out next t = n - t
@@ -48,7 +49,7 @@ loop-again c =
     let a = l .before .before .args in (
       omega arith,
       search needs,
-      written-turn (λ i. setLine i (getD (a .t3) i 0)) (l .loop .t) 392 (l .loop .inv .2) (d .write-table .ensures),
+      written-turn (λ i. setLine i (getD (a .t3) i 0)) (l .loop .t) tableRoom (l .loop .inv .2) (d .write-table .ensures),
     )
 
 same-length : tie.Need-same-length Inv-loop μ-loop

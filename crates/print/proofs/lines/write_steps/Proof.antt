@@ -5,6 +5,7 @@ use Prim.Native.Nat.{_≤_, _-_, _*_}
 use native.Mathlib.Omega.{arith}
 use lib.ListN.{length, getD}
 use Rattle.print.specs.Output.{Written, written-as, written-none}
+use Rattle.print.specs.Room.{stepRoom}
 use Rattle.print.specs.Loops.{upTo, written-turn, upTo-flatMap}
 use Rattle.plan.specs.Steps.{zeroStep}
 use Rattle.text.specs.Print.{printStep}
@@ -16,7 +17,7 @@ abbrev Inv-loop : tie.InvT-loop
 Inv-loop out₀ at n steps next₀ k₀ out next k =
     (k ≤ n)
     × (length out ≡ length out₀)
-    × Written out₀ at (upTo (λ i. printStep (getD steps i zeroStep)) k) (406 * k) out next
+    × Written out₀ at (upTo (λ i. printStep (getD steps i zeroStep)) k) (stepRoom * k) out next
 
 abbrev μ-loop : tie.MeasureT-loop
 μ-loop out₀ at n steps next₀ k₀ out next k = n - k
@@ -48,7 +49,7 @@ loop-again c =
     let a = l .before .before .args in (
       omega arith,
       search needs,
-      written-turn (λ i. printStep (getD (a .t3) i zeroStep)) (l .loop .k) 406 (l .loop .inv .2) (d .write-step .ensures),
+      written-turn (λ i. printStep (getD (a .t3) i zeroStep)) (l .loop .k) stepRoom (l .loop .inv .2) (d .write-step .ensures),
     )
 
 same-length : tie.Need-same-length Inv-loop μ-loop

@@ -1,0 +1,33 @@
+-- `print::whole::write_report` meets its contract: its parts one behind the other, in the room of every print. Assumes nothing.
+use mathlib.Core.Path.{refl}
+use native.Mathlib.Omega.{arith}
+use Rattle.print.specs.Output.{written-as, written-then}
+use Rattle.print.specs.Printed.{reportBytes}
+use borrow.Author.Needs.{needs}
+use Rattle.print.proofs.whole.write_report.Statement.{statement}
+use Rattle.print.proofs.whole.write_report.Tie as tie
+
+write-sets-requires : tie.Need-write-sets-requires
+write-sets-requires c κs = search needs
+
+write-steps-requires : tie.Need-write-steps-requires
+write-steps-requires c κs = search needs
+
+write-rows-requires : tie.Need-write-rows-requires
+write-rows-requires c κs = search needs
+
+same-length : tie.Need-same-length
+same-length c = search needs
+
+returns : tie.Need-returns
+unfolding reportBytes
+returns c =
+    let r = c .before .before in
+    let s = r .before .before .before .before in
+    let t = s .before .before .before .before in
+    written-as refl (omega arith) (written-then (written-then (t .write-sets .ensures) (s .write-steps .ensures)) (r .write-rows .ensures))
+
+pub write-report-spec : {M : Type 1} → statement M
+write-report-spec =
+    tie.close
+    (tie.spec write-sets-requires write-steps-requires write-rows-requires same-length returns)

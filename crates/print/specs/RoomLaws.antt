@@ -1,0 +1,186 @@
+-- The print of every answer fits the room of the output: 8 tables, 16 steps and 256 rows of 8 entries. Assumes nothing.
+use mathlib.Core.Bool.{Bool, true, false}
+use mathlib.Core.List.{List, [], _∷_, _++_, map, flatMap}
+use mathlib.Core.Path.{_≡_, refl, ap}
+use Prim.Native.Nat.{ℕ, zero, suc, _+_, _*_, _/_, _%_, _≤_, _<_}
+use native.Mathlib.Nat.{mul-suc}
+use native.Mathlib.Omega.{arith}
+use lib.Dec.{leb, eqb}
+use lib.ListN.{length, take, length-append, length-take}
+use Rattle.cells.specs.Choice.{if_then_else_}
+use Rattle.cells.specs.Row.{Row, blankRow}
+use Rattle.rows.specs.Lists.{range, keep}
+use Rattle.rows.specs.ListLaws.{_isIn_, here, there}
+use Rattle.plan.specs.declared.step.Step.{Step}
+use Rattle.text.specs.Bytes.{Bytes, bytes, tab, lineFeed}
+use Rattle.text.specs.Print.{digitsOf, printNumber, printFields, printEntry, hasBit, bitNumbers, kindLetter, printSets, printStep, printRow, printRefusal}
+use Rattle.print.specs.Room.{fieldRoom, bitsRoom, endRoom, tableRoom, stepRoom, rowRoom, refusalRoom, printRoom}
+use Rattle.print.specs.Fields.{field, numberField, entryField}
+use Rattle.print.specs.Lines.{end-line, row-line, refusal-line}
+use Rattle.print.specs.Rows.{rowsIn, rows-count, rows-width}
+use Rattle.print.specs.Printed.{reportBytes, Fitting}
+
+-- ---- lists
+
+pub flatMap-room : {A : Type 0} (g : A → Bytes) (room : ℕ) (l : List A) → ((x : A) → x isIn l → length (g x) ≤ room)
+    → length (flatMap g l) ≤ room * length l
+unfolding flatMap
+flatMap-room g room [] h = omega arith
+flatMap-room g room (x ∷ l) h =
+    let i = flatMap-room g room l (λ y m. h y (there m)) in
+    let e : room * suc (length l) ≡ room * length l + room = mul-suc room (length l) in
+    omega (arith, i, e, h x (here refl), length-append (g x) (flatMap g l))
+
+pub keep-room : {A : Type 0} (p : A → Bool) (l : List A) → length (keep p l) ≤ length l
+unfolding keep
+keep-room p [] = omega arith
+keep-room p (x ∷ l) = go (p x) (keep-room p l)
+  where
+    go : (b : Bool) → length (keep p l) ≤ length l → length (if b then x ∷ keep p l else keep p l) ≤ suc (length l)
+    go true h = omega arith
+    go false h = omega arith
+
+pub range-length : (s n : ℕ) → length (range s n) ≡ n
+unfolding range
+range-length s zero = refl
+range-length s (suc n) = ap suc (range-length (suc s) n)
+
+-- ---- fields
+
+pub digits-room : (most n : ℕ) → length (digitsOf most n) ≤ most
+unfolding digitsOf
+digits-room zero n = omega arith
+digits-room (suc most) n = go (leb n 9) (digits-room most (n / 10))
+  where
+    go : (b : Bool) → length (digitsOf most (n / 10)) ≤ most
+        → length {A = ℕ} (elim b [ true ↦ (48 + n) ∷ [] | false ↦ digitsOf most (n / 10) ++ ((48 + n % 10) ∷ []) ]) ≤ suc most
+    go true h = omega arith
+    go false h = omega (arith, length-append (digitsOf most (n / 10)) ((48 + n % 10) ∷ []))
+
+pub digits-most : (n : ℕ) → length (printNumber n) ≤ 5
+unfolding printNumber
+digits-most n = digits-room 5 n
+
+pub number-room : (n : ℕ) → length (numberField n) ≤ fieldRoom
+unfolding numberField field
+number-room n = omega (arith, digits-most n)
+
+pub entry-room : (x : ℕ) → length (entryField x) ≤ fieldRoom
+unfolding entryField field printEntry bytes
+entry-room x = go (eqb x blankRow)
+  where
+    go : (b : Bool) → suc (length (if b then bytes "-" else printNumber x)) ≤ fieldRoom
+    go true = omega arith
+    go false = omega (arith, digits-most x)
+
+pub bits-room : (m : ℕ) → length (flatMap numberField (bitNumbers m)) ≤ bitsRoom
+unfolding bitNumbers
+bits-room m =
+    omega (
+      arith,
+      flatMap-room numberField fieldRoom (bitNumbers m) (λ n _. number-room n),
+      keep-room (hasBit m) (range 0 64),
+      range-length 0 64,
+    )
+
+-- ---- lines
+
+pub end-room : (number conditions : ℕ) → length (printFields (map printNumber (number ∷ bitNumbers conditions))) ≤ endRoom
+end-room number conditions = rw (end-line number conditions)
+    (rw (length-append (numberField number ++ flatMap numberField (bitNumbers conditions)) (lineFeed ∷ []), length-append (numberField number) (flatMap numberField (bitNumbers conditions)))
+    (omega (arith, number-room number, bits-room conditions)))
+
+pub sets-room : (t : ℕ) (S : List ℕ) → length (printSets t S) ≤ tableRoom * length S
+unfolding printSets bytes
+sets-room t [] = omega arith
+sets-room t (s ∷ S) =
+    let line : Bytes = printFields (map printNumber (t ∷ bitNumbers s)) in
+    omega (arith, sets-room (suc t) S, end-room t s, length-append line (printSets (suc t) S))
+
+pub row-room : (row : Row) → length row ≤ 8 → length (printRow row) ≤ rowRoom
+unfolding bytes
+row-room row h =
+    let fields : Bytes = flatMap entryField row in
+    rw (row-line row)
+    (omega (arith, length-append fields (lineFeed ∷ []), flatMap-room entryField fieldRoom row (λ x _. entry-room x)))
+
+pub refusal-room : (n : ℕ) → length (printRefusal n) ≤ refusalRoom
+unfolding bytes
+refusal-room n = rw (refusal-line n) (omega (arith, length-append (numberField n) (lineFeed ∷ []), number-room n))
+
+kind-room : (k : ℕ) → length (kindLetter k) ≤ 1
+unfolding kindLetter bytes
+kind-room zero = omega arith
+kind-room (suc zero) = omega arith
+kind-room (suc (suc zero)) = omega arith
+kind-room (suc (suc (suc zero))) = omega arith
+kind-room (suc (suc (suc (suc k)))) = omega arith
+
+no-fields : length (printFields []) ≡ 1
+unfolding printFields
+no-fields = refl
+
+-- the first field of a line and the others
+fields-length : (f : Bytes) (fs : List Bytes) → length (printFields (f ∷ fs)) ≡ suc (length f) + length (printFields fs)
+unfolding printFields
+fields-length f fs = length-append (tab ∷ f) (printFields fs)
+
+pair-room : (kind first second rows conditions : ℕ)
+    → length (printFields (kindLetter kind ∷ map printNumber (first ∷ second ∷ rows ∷ bitNumbers conditions))) < stepRoom
+pair-room kind first second rows conditions =
+    let end : List Bytes = map printNumber (rows ∷ bitNumbers conditions) in
+    omega (
+      arith,
+      fields-length (kindLetter kind) (printNumber first ∷ printNumber second ∷ end),
+      fields-length (printNumber first) (printNumber second ∷ end),
+      fields-length (printNumber second) end,
+      kind-room kind,
+      digits-most first,
+      digits-most second,
+      end-room rows conditions,
+    )
+
+pub step-room : (s : Step) → length (printStep s) ≤ stepRoom
+unfolding printStep bytes
+step-room s = go (leb (s .kind) 3) (eqb (s .kind) 4)
+  where
+    go : (a b : Bool)
+        → length
+        (if a
+        then bytes "M"
+        ++ printFields (kindLetter (s .kind) ∷ map printNumber (s .first ∷ s .second ∷ s .rows ∷ bitNumbers (s .conditions)))
+        else if b then bytes "B" ++ printFields (map printNumber (s .first ∷ bitNumbers (s .conditions)))
+        else bytes "Z" ++ printFields [])
+        ≤ stepRoom
+    go true b = omega (arith, pair-room (s .kind) (s .first) (s .second) (s .rows) (s .conditions))
+    go false true = omega (arith, end-room (s .first) (s .conditions))
+    go false false = omega (arith, no-fields)
+
+-- ---- the print of an answer
+
+-- eight tables, sixteen steps and 256 rows of eight entries
+pub report-room : (sets : List ℕ) (steps : List Step) (rows : List Row) → length sets ≤ 8 → length steps ≤ 16 → length rows ≤ 256
+    → ((row : Row) → row isIn rows → length row ≤ 8) → length (reportBytes sets steps rows) ≤ printRoom
+unfolding reportBytes
+report-room sets steps rows a b c h =
+    let S : Bytes = printSets 0 sets in
+    let P : Bytes = flatMap printStep steps in
+    let R : Bytes = flatMap printRow rows in
+    omega (
+      arith,
+      length-append (S ++ P) R,
+      length-append S P,
+      sets-room 0 sets,
+      flatMap-room printStep stepRoom steps (λ s _. step-room s),
+      flatMap-room printRow rowRoom rows (λ row m. row-room row (h row m)),
+    )
+
+-- the same of what a call prints from its arrays and its result buffer
+pub call-room : (sets : List ℕ) (steps : List Step) (result : List ℕ) (tables count rows : ℕ) → Fitting tables count rows (length result)
+    → length (reportBytes (take tables sets) (take count steps) (rowsIn tables rows result)) ≤ printRoom
+call-room sets steps result tables count rows f =
+    report-room (take tables sets) (take count steps) (rowsIn tables rows result)
+    (omega (arith, length-take tables sets))
+    (omega (arith, length-take count steps))
+    (omega (arith, rows-count tables rows result))
+    (λ row m. omega (arith, rows-width tables rows result row m))
