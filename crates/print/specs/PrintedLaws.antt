@@ -51,6 +51,10 @@ fitting-facts tables steps rows numbers e =
       numbers-there = leb-true (rows * tables) numbers n;
     }
 
+pub facts-fitting : (tables steps rows numbers : ℕ) → Fitting tables steps rows numbers → fitting tables steps rows numbers ≡ true
+facts-fitting tables steps rows numbers f =
+    few tables steps rows numbers (f .tables-few) (f .steps-few) (f .rows-few) ∙ le-leb (rows * tables) numbers (f .numbers-there)
+
 -- ---- the print
 
 module _ (fit : Bool) (b : Bytes) {w : List ℕ} where
@@ -77,3 +81,9 @@ module _ (fit : Bool) (b : Bytes) {w : List ℕ} where
         answer = rw (e, f) (ap Wrote n);
         output = rw (e, f) (o ∙ ap (λ (k : ℕ). b ++ drop k w) n);
       }
+
+-- what a caller with room and with an answer's counts gets
+pub printed-bytes : (fit : Bool) (b : Bytes) (w : List ℕ) → printRoom ≤ length w → fit ≡ true
+    → printed fit b w ≡ record { answer = Wrote (length b); output = b ++ drop (length b) w }
+unfolding printed
+printed-bytes fit b w h f = rw (le-leb printRoom (length w) h, f)

@@ -1,5 +1,6 @@
--- The room that the parts of the print take: bounds on their bytes, by which the code shows that it stays within the output.
--- `printRoom` is the size that an output needs. Assumes nothing.
+-- The room that the parts of the print take: bounds on their bytes, by which the code shows that it stays within the output. They
+-- serve the code; no demand cites them but `printRoom`, the size that an output needs.
+-- Assumes nothing.
 use Prim.Native.Nat.{ℕ, _+_, _*_}
 
 -- a field: its tab and at most five digits

@@ -86,9 +86,11 @@ bits-room m =
 -- ---- lines
 
 pub end-room : (number conditions : ℕ) → length (printFields (map printNumber (number ∷ bitNumbers conditions))) ≤ endRoom
-end-room number conditions = rw (end-line number conditions)
-    (rw (length-append (numberField number ++ flatMap numberField (bitNumbers conditions)) (lineFeed ∷ []), length-append (numberField number) (flatMap numberField (bitNumbers conditions)))
-    (omega (arith, number-room number, bits-room conditions)))
+end-room number conditions =
+    let n : Bytes = numberField number in
+    let l : Bytes = flatMap numberField (bitNumbers conditions) in
+    rw (end-line number conditions)
+    (omega (arith, length-append (n ++ l) (lineFeed ∷ []), length-append n l, number-room number, bits-room conditions))
 
 pub sets-room : (t : ℕ) (S : List ℕ) → length (printSets t S) ≤ tableRoom * length S
 unfolding printSets bytes

@@ -17,6 +17,9 @@ const ZERO: u8 = b'0';
 // The most digits of a number of the print.
 const DIGITS: usize = 5;
 
+// The bits of a set of conditions.
+const BITS: u16 = 64;
+
 // The decimal digits of a number that has at most so many.
 fn write_digits(out: &mut [u8], at: usize, most: usize, n: u16) -> usize
     requires { ⌜ at + most ≤ length (now out) ⌝ }
@@ -71,7 +74,7 @@ pub fn write_bits(out: &mut [u8], at: usize, bits: u64) -> usize
 {
     let mut next = at;
     let mut k: u16 = 0;
-    while k < 64 {
+    while k < BITS {
         next = write_bit(out, next, bits, k);
         k += 1;
     }

@@ -66,16 +66,21 @@ fn write_best_match(out: &mut [u8], at: usize) -> usize
     output::put(out, next, field::LINE_FEED)
 }
 
+// A step's kind: a pair's is at most PAIR; BLANKING is a blanking step's.
+const PAIR: u8 = 3;
+
+const BLANKING: u8 = 4;
+
 // A step's line.
 pub fn write_step(out: &mut [u8], at: usize, s: Step) -> usize
     requires { ⌜ at + stepRoom ≤ length (now out) ⌝ }
     ensures { λ r. ⌜ Written (now (out .entry)) at (printStep s) stepRoom (now (out .exit)) r ⌝ }
 {
     let kind = s.kind;
-    if kind <= 3 {
+    if kind <= PAIR {
         return write_pair(out, at, s);
     }
-    if kind == 4 {
+    if kind == BLANKING {
         return write_table(out, at, b'B', s.first as u16, s.conditions);
     }
     write_best_match(out, at)

@@ -41,7 +41,8 @@ add-from : tie.Need-add-from Inv-loop μ-loop
 add-from c =
     let l = c .before .before .before .before .before in
     let a = l .before .before .before in
-    let h : l .loop .i * a .args .n + a .args .n ≤ a .args .rows * a .args .n = row-fits (a .args .n) (c .before .before .before .before .loop-test .taken) in
+    let t = c .before .before .before .before .loop-test .taken in
+    let h : l .loop .i * a .args .n + a .args .n ≤ a .args .rows * a .args .n = row-fits (a .args .n) t in
     search needs
 
 add-i : tie.Need-add-i Inv-loop μ-loop
@@ -55,12 +56,12 @@ loop-again c =
     let d = c .before .before in
     let l = d .before .before .before in
     let a = l .before .before .before .args in
-    let e : (l .loop .i + 1) * a .n ≡ l .loop .i * a .n + a .n = ap (λ (k : ℕ). k * a .n) (add-one (l .loop .i)) ∙ suc-mul (l .loop .i) (a .n) in (
+    let next = ap (λ (k : ℕ). k * a .n) (add-one (l .loop .i)) ∙ suc-mul (l .loop .i) (a .n) in
+    let row = written-as (ap (λ (j : ℕ). printRow (take (a .n) (drop j (now (a .result))))) (l .loop .inv .1)) (le-refl rowRoom) (d .write-row .ensures) in (
       omega arith,
-      omega (arith, e, l .loop .inv .1),
+      omega (arith, next, l .loop .inv .1),
       search needs,
-      written-turn (λ k. printRow (take (a .n) (drop (k * a .n) (now (a .result))))) (l .loop .i) rowRoom (l .loop .inv .3)
-          (written-as (ap (λ (j : ℕ). printRow (take (a .n) (drop j (now (a .result))))) (l .loop .inv .1)) (le-refl rowRoom) (d .write-row .ensures)),
+      written-turn (λ k. printRow (take (a .n) (drop (k * a .n) (now (a .result))))) (l .loop .i) rowRoom (l .loop .inv .3) row,
     )
 
 same-length : tie.Need-same-length Inv-loop μ-loop
