@@ -51,8 +51,8 @@ digits-more (suc most) n p h = rw (digitsOf, lt-leb n 9 h, sub-one (suc most))
 
 -- ---- an entry of a row
 
-pub entry-blank : (x : ℕ) → x ≡ blankRow → entryField x ≡ tab ∷ 45 ∷ []
-unfolding entryField field printEntry bytes
+pub entry-blank : (x : ℕ) → x ≡ blankRow → entryField x ≡ tab ∷ bytes "-"
+unfolding entryField field printEntry
 entry-blank x e = rw (eq-eqb x blankRow e)
 
 pub entry-number : (x : ℕ) → (x ≡ blankRow → ⊥) → entryField x ≡ numberField x

@@ -47,8 +47,8 @@ pub pair-line : (s : Step) → s .kind ≤ 3 → printStep s
 unfolding printStep printFields numberField field bytes
 pair-line s h = rw (le-leb (s .kind) 3 h) (simp append-assoc)
 
-pub blanking-line : (s : Step) → s .kind ≡ 4 → printStep s ≡ 66 ∷ printFields (map printNumber (s .first ∷ bitNumbers (s .conditions)))
-unfolding printStep bytes
+pub blanking-line : (s : Step) → s .kind ≡ 4 → printStep s ≡ bytes "B" ++ printFields (map printNumber (s .first ∷ bitNumbers (s .conditions)))
+unfolding printStep
 blanking-line s e = rw (lt-leb (s .kind) 3 (omega arith), eq-eqb (s .kind) 4 e)
 
 pub best-match-line : (s : Step) → 3 < s .kind → (s .kind ≡ 4 → ⊥) → printStep s ≡ bytes "Z" ++ printFields []
@@ -61,7 +61,7 @@ pub kind-none : (k : ℕ) → k ≡ 0 → field (kindLetter k) ≡ tab ∷ []
 unfolding field kindLetter
 kind-none k e = ap (λ (n : ℕ). field (kindLetter n)) e
 
-pub kind-letter : (k : ℕ) → (k ≡ 0 → ⊥) → k ≤ 3 → field (kindLetter k) ≡ tab ∷ getD (32 ∷ 73 ∷ 76 ∷ 79 ∷ []) k 0 ∷ []
+pub kind-letter : (k : ℕ) → (k ≡ 0 → ⊥) → k ≤ 3 → field (kindLetter k) ≡ tab ∷ getD (bytes " ILO") k 0 ∷ []
 unfolding field kindLetter bytes
 kind-letter zero n h = absurd (n refl)
 kind-letter (suc zero) n h = refl
@@ -73,7 +73,7 @@ kind-letter (suc (suc (suc (suc k)))) n h = absurd (omega arith)
 
 -- a table's S line
 unfoldable pub setLine : ℕ → ℕ → Bytes
-setLine t s = 83 ∷ printFields (map printNumber (t ∷ bitNumbers s))
+setLine t s = bytes "S" ++ printFields (map printNumber (t ∷ bitNumbers s))
 
 pub sets-last : (t : ℕ) (S : List ℕ) (s : ℕ) → printSets t (S ++ (s ∷ [])) ≡ printSets t S ++ setLine (t + length S) s
 unfolding printSets setLine bytes

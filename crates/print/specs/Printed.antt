@@ -4,7 +4,7 @@ use mathlib.Core.Bool.{Bool, _&&_}
 use mathlib.Core.List.{List, _++_, flatMap}
 use mathlib.Core.Path.{_≡_}
 use Prim.Native.Nat.{ℕ, _*_, _≤_}
-use lib.Dec.{leb}
+use lib.Dec.{leb, ltb}
 use lib.ListN.{length, drop}
 use Rattle.cells.specs.Choice.{if_then_else_}
 use Rattle.cells.specs.Row.{Row}
@@ -35,15 +35,13 @@ pub record Print : Type 0 where
   pub answer : Printed
   pub output : List ℕ
 
--- a print into an output: "the number of bytes" and the bytes, and behind them what stood there; no change where the output is too short,
--- or the counts are not those of an answer
+-- a print into an output: the number of its bytes, and the output with the bytes at its front and behind them what stood there.
+-- No change where the output is too short, or the counts are not those of an answer
 unfoldable pub printed : Bool → Bytes → List ℕ → Print
 printed fit b out =
-    if leb printRoom (length out)
-    then (if fit
-    then record { answer = Wrote (length b); output = b ++ drop (length b) out }
-    else record { answer = Unfit; output = out })
-    else record { answer = NoRoom; output = out }
+    if ltb (length out) printRoom then record { answer = NoRoom; output = out }
+    else if fit then record { answer = Wrote (length b); output = b ++ drop (length b) out }
+    else record { answer = Unfit; output = out }
 
 -- a call's answer and the output as it leaves it are those of a print
 pub record Prints (p : Print) (r : Printed) (w : List ℕ) : Type 0 where

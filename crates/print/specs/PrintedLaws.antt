@@ -5,9 +5,9 @@ use mathlib.Core.List.{List, _++_}
 use mathlib.Core.Path.{_≡_, refl, ap, _∙_}
 use Prim.Native.Nat.{ℕ, _+_, _*_, _≤_, _<_}
 use native.Mathlib.Omega.{arith}
-use lib.Dec.{leb}
+use lib.Dec.{leb, ltb}
 use lib.ListN.{length, drop}
-use borrow.Author.Tests.{le-leb, lt-leb, leb-true}
+use borrow.Author.Tests.{le-leb, lt-leb, lt-ltb, le-ltb, leb-true}
 use Rattle.text.specs.Bytes.{Bytes}
 use Rattle.print.specs.Output.{Written, written-whole}
 use Rattle.print.specs.Room.{printRoom}
@@ -61,20 +61,20 @@ module _ (fit : Bool) (b : Bytes) {w : List ℕ} where
   pub prints-no-room : length w < printRoom → Prints (printed fit b w) NoRoom w
   unfolding printed
   prints-no-room h =
-      let e : leb printRoom (length w) ≡ false = lt-leb printRoom (length w) h in
+      let e : ltb (length w) printRoom ≡ true = lt-ltb (length w) printRoom h in
       record { answer = rw e; output = rw e }
 
   pub prints-unfit : printRoom ≤ length w → fit ≡ false → Prints (printed fit b w) Unfit w
   unfolding printed
   prints-unfit h f =
-      let e : leb printRoom (length w) ≡ true = le-leb printRoom (length w) h in
+      let e : ltb (length w) printRoom ≡ false = le-ltb (length w) printRoom h in
       record { answer = rw (e, f); output = rw (e, f) }
 
   pub prints-bytes : {room : ℕ} {w′ : List ℕ} {r : ℕ} → printRoom ≤ length w → fit ≡ true → room ≤ printRoom
       → Written w 0 b room w′ r → Prints (printed fit b w) (Wrote r) w′
   unfolding printed
   prints-bytes {r} h f m p =
-      let e : leb printRoom (length w) ≡ true = le-leb printRoom (length w) h in
+      let e : ltb (length w) printRoom ≡ false = le-ltb (length w) printRoom h in
       let n : r ≡ length b = omega (arith, p .next) in
       let o = written-whole (omega (arith, p .next, p .within)) p in
       record {
@@ -86,4 +86,4 @@ module _ (fit : Bool) (b : Bytes) {w : List ℕ} where
 pub printed-bytes : (fit : Bool) (b : Bytes) (w : List ℕ) → printRoom ≤ length w → fit ≡ true
     → printed fit b w ≡ record { answer = Wrote (length b); output = b ++ drop (length b) w }
 unfolding printed
-printed-bytes fit b w h f = rw (le-leb printRoom (length w) h, f)
+printed-bytes fit b w h f = rw (le-ltb (length w) printRoom h, f)

@@ -2,7 +2,7 @@
 use mathlib.Core.Path.{sym}
 use native.Mathlib.Omega.{arith}
 use Rattle.cells.specs.Row.{blankRow}
-use Rattle.text.specs.Bytes.{tab}
+use Rattle.text.specs.Bytes.{bytes, tab}
 use Rattle.print.specs.Output.{written-as, written-then}
 use Rattle.print.specs.Fields.{entry-blank, entry-number}
 use borrow.Author.Needs.{needs}
@@ -19,7 +19,7 @@ same-length : tie.Need-same-length
 same-length c = search needs
 
 returns : tie.Need-returns
-unfolding tab blankRow
+unfolding tab bytes blankRow
 returns c =
     let d = c .before .before in
     let b = d .before .before .before .before in

@@ -1,7 +1,7 @@
 -- `print::line::write_kind` meets its contract: no letter by `kind-none`, a letter of the table by `kind-letter`. Assumes nothing.
 use mathlib.Core.Path.{sym}
 use native.Mathlib.Omega.{arith}
-use Rattle.text.specs.Bytes.{tab}
+use Rattle.text.specs.Bytes.{bytes, tab}
 use Rattle.print.specs.Output.{written-as, written-then}
 use Rattle.print.specs.Lines.{kind-none, kind-letter}
 use borrow.Author.Needs.{needs}
@@ -30,7 +30,7 @@ same-length-2 : tie.Need-same-length-2
 same-length-2 c = search needs
 
 returns-2 : tie.Need-returns-2
-unfolding tab
+unfolding tab bytes
 returns-2 c =
     let q = c .before .before in
     let f = q .before .before in

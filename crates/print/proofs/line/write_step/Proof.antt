@@ -1,6 +1,7 @@
 -- `print::line::write_step` meets its contract: one law of Lines for each kind. Assumes nothing.
 use mathlib.Core.Path.{sym}
 use native.Mathlib.Omega.{arith}
+use Rattle.text.specs.Bytes.{bytes}
 use Rattle.print.specs.Output.{written-as}
 use Rattle.print.specs.Lines.{blanking-line, best-match-line}
 use borrow.Author.Needs.{needs}
@@ -26,6 +27,7 @@ same-length-2 : tie.Need-same-length-2
 same-length-2 c = search needs
 
 returns-2 : tie.Need-returns-2
+unfolding bytes
 returns-2 c =
     let t = c .before .before in
     let f = t .before .before .before in

@@ -4,6 +4,7 @@ use mathlib.Core.Path.{_≡_, refl, _∙_, ap}
 use Prim.Native.Nat.{_≤_, _-_, _*_}
 use native.Mathlib.Omega.{arith}
 use lib.ListN.{length, getD}
+use Rattle.text.specs.Bytes.{bytes}
 use Rattle.print.specs.Output.{Written, written-as, written-none}
 use Rattle.print.specs.Room.{tableRoom}
 use Rattle.print.specs.Loops.{upTo, written-turn}
@@ -42,7 +43,7 @@ loop-less : tie.Need-loop-less Inv-loop μ-loop
 loop-less c = search needs
 
 loop-again : tie.Need-loop-again Inv-loop μ-loop
-unfolding setLine
+unfolding setLine bytes
 loop-again c =
     let d = c .before .before in
     let l = d .before .before .before in
