@@ -1,0 +1,110 @@
+"""Random reports that questions 2 to 8 do not turn down, by how they are made.
+
+One to eight tables, some of them empty, blanks in the cells, all operators,
+C lines between the sides, C lines with both tables on one side, K lines. The
+same seed gives the same texts.
+"""
+import random
+
+OPERATORS = ["<", "=", "<=", ">", "<>", ">="]
+EXTREMES = [-2147483647, -2147483646, -1, 2147483646, 2147483647]
+
+
+def text_of(lines):
+    return "".join("\t".join(str(f) for f in line) + "\n" for line in lines).encode("ascii")
+
+
+def order(rng, n):
+    """The pairs of a random tree over n tables, as nodes."""
+    shape = rng.choice(["any", "any", "any", "left", "right"])
+    free, pairs = list(range(n)), []
+    rng.shuffle(free)
+    for i in range(n - 1):
+        if shape == "any" or i == 0:
+            left, right = (free.pop(rng.randrange(len(free))) for _ in range(2))
+        else:
+            left, right = free.pop(), free.pop(0)
+            if shape == "right":
+                left, right = right, left
+        pairs.append((left, right))
+        free.append(n + i)
+    return pairs
+
+
+def order_lines(rng, n):
+    """The same as P lines, as a text."""
+    return text_of(["P", left, right] for left, right in order(rng, n))
+
+
+def tables(rng, n):
+    most = rng.choice({1: [3, 12, 40], 2: [3, 6, 14], 3: [2, 4, 7], 4: [2, 4, 5]}.get(n, [2, 2, 3, 4]))
+    blanks = rng.choice([0, 0.05, 0.05, 0.2, 0.5])
+    empty = rng.choice([0, 0, 0, 0.1, 0.3])
+    lowest = rng.choice([0, 0, -1, 7])
+    highest = lowest + rng.choice([0, 1, 1, 2, 3] if n < 5 else [0, 1, 1, 2])
+    lines, columns = [], []
+
+    def value():
+        if rng.random() < 0.02:
+            return rng.choice(EXTREMES)
+        return rng.randint(lowest, highest)
+    for _ in range(n):
+        columns.append(rng.choice([1, 1, 1, 2, 2, 3, 8]))
+        lines.append(["T", columns[-1]])
+        rows = 0 if rng.random() < empty else rng.randint(min(most, 2), most)
+        for _ in range(rows):
+            lines.append(["D"] + ["-" if rng.random() < blanks else value()
+                                  for _ in range(columns[-1])])
+    return lines, columns, value
+
+
+def report(rng):
+    """The lines of one report, without P lines, and its count of tables."""
+    n = rng.choice([1, 2, 2, 2, 3, 3, 3, 3, 4, 4, 4, 4, 5, 5, 5, 6, 6, 7, 7, 8])
+    lines, columns, value = tables(rng, n)
+    outer = rng.choice([0.2, 0.6, 0.6, 0.9])        # the share of outer joins
+    more = rng.choice([0, 0.3, 0.6])                # how many conditions beside the first
+    equal = rng.choice([2, 6, 30])                  # how much = is favoured
+    left_conditions = 32
+    under = [{t} for t in range(n)]
+    right_of_outer = [set() for _ in range(n)]      # per node: the tables right of an outer join in it
+
+    def side(table):
+        return [table, rng.randrange(columns[table])]
+
+    def operator():
+        return rng.choice(OPERATORS + ["="] * equal)
+
+    for i, (left, right) in enumerate(order(rng, n)):
+        kind = "L" if rng.random() < outer else "I"
+        # Question 8: a side that the join drops or blanks is named only in tables
+        # that lie right of no outer join in it.
+        lefts = under[left] - (right_of_outer[left] if kind == "I" else set())
+        rights = under[right] - right_of_outer[right]
+        between = [rng.choice(sorted(lefts)), rng.choice(sorted(rights))]
+        rng.shuffle(between)
+        own = [["C"] + side(between[0]) + [operator()] + side(between[1])]
+        left_conditions -= 1
+        # each join to come needs one
+        while rng.random() < more and left_conditions > n - 2 - i:
+            a, b = (rng.choice(sorted(lefts | rights)) for _ in range(2))
+            if a == b or rng.random() < 0.3:
+                own.append(["K"] + side(a) + [rng.choice(OPERATORS), value()])
+            else:
+                own.append(["C"] + side(a) + [operator()] + side(b))
+            left_conditions -= 1
+        rng.shuffle(own)
+        lines.append(["J", kind, left, right])
+        lines += own
+        under.append(under[left] | under[right])
+        right_of_outer.append(right_of_outer[left] | right_of_outer[right]
+                              | (under[right] if kind == "L" else set()))
+    return lines, n
+
+
+def texts(seed, count):
+    """Pairs of a text without P lines and its count of tables."""
+    rng = random.Random(seed)
+    for _ in range(count):
+        lines, n = report(rng)
+        yield text_of(lines), n
