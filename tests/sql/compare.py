@@ -1,0 +1,173 @@
+"""The comparison that check-sql and check-postgres share."""
+import argparse
+import collections
+import glob
+import os
+import random
+import subprocess
+import sys
+import time
+
+here = os.path.dirname(os.path.abspath(__file__))
+top = os.path.dirname(os.path.dirname(here))
+sys.path[:0] = [here, os.path.join(top, "tests", "reference")]
+import reports                                                          # noqa: E402
+import translate                                                        # noqa: E402
+
+LIMIT = 256
+
+
+def printed(rows):
+    return "".join("R\t%s\n" % "\t".join("-" if r is None else str(r) for r in row)
+                   for row in rows).encode("ascii")
+
+
+def product_of_tables(text):
+    """No result on the way has more rows than this."""
+    product = 1
+    for _, rows in translate.Query(text).tables:
+        product *= max(1, len(rows))
+    return product
+
+
+def without_order(text):
+    return b"".join(line for line in text.splitlines(True) if not line.startswith(b"P"))
+
+
+def rows_of(out):
+    """The R lines of a print."""
+    return b"".join(line for line in out.splitlines(True) if line.startswith(b"R"))
+
+
+def turned_down(out):
+    """The number of a refusal, or None."""
+    return int(out[2:]) if out.startswith(b"E\t") else None
+
+
+class Check:
+    """Holds an implementation to an SQL system.
+
+    run(program, text) gives a print; ask(text) gives the rows of the nested join
+    and of the joins one by one, both as printed() writes them, and the most rows
+    that a join has.
+    """
+
+    def __init__(self, system, ask, run):
+        self.system, self.ask, self.run = system, ask, run
+        self.count = collections.Counter()
+
+    def difference(self, what, text, **prints):
+        self.count["differences"] += 1
+        print("DIFFERENCE: " + what)
+        for name, value in [("the text", text)] + list(prints.items()):
+            print("  " + name.replace("_", " ") + ":")
+            for line in value.decode("ascii", "replace").splitlines() or ["(nothing)"]:
+                print("    " + line)
+        sys.stdout.flush()
+
+    def sql(self, text):
+        nested, steps, most = self.ask(text)
+        if nested != steps:
+            self.difference("the nested join and the joins one by one in SQL", text,
+                            nested=nested, one_by_one=steps)
+        self.count["rows of SQL"] += nested.count(b"\n")
+        if b"\t-" in nested:
+            self.count["results of SQL with a blank"] += 1
+        return nested, most
+
+    def hold_direct(self, text, out, rows, most, who):
+        expected = rows if most <= LIMIT else b"E\t11\n"
+        self.count[who + ": " + ("rows" if most <= LIMIT else "E 11")] += 1
+        if out != expected:
+            self.difference(who, text, SQL=expected, printed=out)
+
+    def hold_report(self, text, out, rows, who):
+        number = turned_down(out)
+        if number is None:
+            self.count[who + ": rows"] += 1
+            if b"\nZ\n" in out:
+                self.count[who + ": with blanking steps"] += 1
+            if b"\nM\tO\t" in out:
+                self.count[who + ": with a product"] += 1
+            if rows_of(out) != rows:
+                self.difference(who, text, SQL=rows, printed=out)
+        elif number == 11 and product_of_tables(text) > LIMIT:
+            self.count[who + ": E 11"] += 1
+        else:
+            self.difference(who, text, SQL=rows, printed=out)
+
+    def random_report(self, text, n, rng, orders):
+        self.count["random reports"] += 1
+        self.count["random reports of %d tables" % n] += 1
+        rows, most = self.sql(text)
+        if rows:
+            self.count["random reports with rows"] += 1
+        self.hold_direct(text, self.run("direct", text), rows, most, "direct")
+        given = [b""]
+        if n > 1:
+            given += [reports.order_lines(rng, n) for _ in range(orders)]
+        for order in given:
+            self.hold_report(text + order, self.run("report", text + order), rows, "report")
+
+    def file(self, path, rng, orders):
+        with open(path, "rb") as file:
+            text = file.read()
+        stored = {}
+        for program in ("report", "direct"):
+            with open(path[:-len("in")] + program, "rb") as file:
+                stored[program] = file.read()
+        if turned_down(stored["direct"]) in range(2, 9):
+            self.count["files turned down by questions 2 to 8"] += 1
+            return
+        self.count["files"] += 1
+        rows, most = self.sql(text)
+        self.hold_direct(text, stored["direct"], rows, most, "stored direct")
+        self.hold_direct(text, self.run("direct", text), rows, most, "direct")
+        if turned_down(stored["report"]) != 9:
+            self.hold_report(text, stored["report"], rows, "stored report")
+            self.hold_report(text, self.run("report", text), rows, "report")
+        query = without_order(text)
+        given = [b""]
+        n = len(translate.Query(text).tables)
+        if n > 1:
+            given += [reports.order_lines(rng, n) for _ in range(orders)]
+        for order in given:
+            if len(query + order) <= 16384:
+                self.hold_report(query + order, self.run("report", query + order), rows, "report")
+
+
+def main(name, about, system, ask, count):
+    """The whole of a check: arguments, texts, counts. Gives the exit status."""
+    parser = argparse.ArgumentParser(
+        prog=name, usage=name + " [--seed N] [--count N] [--orders N] [REPORT DIRECT]",
+        description=about, formatter_class=argparse.RawDescriptionHelpFormatter)
+    parser.add_argument("--seed", type=int, default=1)
+    parser.add_argument("--count", type=int, default=count)
+    parser.add_argument("--orders", type=int, default=3)
+    parser.add_argument("programs", nargs="*")
+    given = parser.parse_args()
+    if len(given.programs) not in (0, 2):
+        parser.error("no program or two")
+    if given.programs:
+        path = dict(zip(("report", "direct"), given.programs))
+
+        def run(program, text):
+            return subprocess.run([path[program]], input=text, stdout=subprocess.PIPE).stdout
+    else:
+        import reference
+        run = reference.run
+    start = time.monotonic()
+    check = Check(system, ask, run)
+    rng = random.Random(given.seed)
+    for folder in ("trials", "samples"):
+        for path_in in sorted(glob.glob(os.path.join(top, folder, "*.in"))):
+            check.file(path_in, rng, given.orders)
+    for text, n in reports.texts(given.seed, given.count):
+        check.random_report(text, n, rng, given.orders)
+    print("%s, seed %d" % (system, given.seed))
+    for counted in sorted(check.count):
+        if counted != "differences":
+            print("%7d %s" % (check.count[counted], counted))
+    print("%d differences in %.0f seconds" % (check.count["differences"], time.monotonic() - start))
+    enough = check.count["direct: rows"] and check.count["report: rows"]
+    return 0 if enough and not check.count["differences"] else 1
