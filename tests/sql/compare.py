@@ -15,6 +15,7 @@ import reports                                                          # noqa: 
 import translate                                                        # noqa: E402
 
 LIMIT = 256
+SECONDS = 50            # where no count is given, no new report is begun after these
 
 
 def printed(rows):
@@ -49,11 +50,12 @@ class Check:
 
     run(program, text) gives a print; ask(text) gives the rows of the nested join
     and of the joins one by one, both as printed() writes them, and the most rows
-    that a join has.
+    that a join has. run_plan(text, lines), which may be left out, gives the counts
+    of the pairs and the rows of a printed plan.
     """
 
-    def __init__(self, system, ask, run):
-        self.system, self.ask, self.run = system, ask, run
+    def __init__(self, ask, run, run_plan):
+        self.ask, self.run, self.run_plan = ask, run, run_plan
         self.count = collections.Counter()
 
     def difference(self, what, text, **prints):
@@ -91,10 +93,36 @@ class Check:
                 self.count[who + ": with a product"] += 1
             if rows_of(out) != rows:
                 self.difference(who, text, SQL=rows, printed=out)
+            elif self.run_plan:
+                self.hold_plan(text, out, rows, who)
         elif number == 11 and product_of_tables(text) > LIMIT:
             self.count[who + ": E 11"] += 1
         else:
             self.difference(who, text, SQL=rows, printed=out)
+
+    def hold_plan(self, text, out, rows, who):
+        query = translate.Query(text)
+        pairs = query.pairs or [(left, right) for _, left, right, _ in query.joins]
+        lines = out.decode("ascii").splitlines()
+        steps = [line.split("\t") for line in lines if line.startswith("M\t")]
+        try:
+            printed_pairs = [(int(one), int(other)) for _, _, one, other, *_ in steps]
+            same = len(pairs) == len(steps) and all(
+                printed_pair == pair or step[1] == "L" and printed_pair == pair[::-1]
+                for printed_pair, pair, step in zip(printed_pairs, pairs, steps))
+            if not same:
+                self.difference(who + ", the pairs of the M lines", text, printed=out)
+                return
+            counts, plan_rows = self.run_plan(text, lines)
+        except Exception as fault:                          # a plan that cannot be run
+            self.difference(who + ", the plan: " + repr(fault), text, printed=out)
+            return
+        self.count[who + ": plans run in SQL"] += 1
+        if counts != [int(step[4]) for step in steps]:
+            self.difference(who + ", the counts of the M lines", text,
+                            SQL=repr(counts).encode("ascii"), printed=out)
+        if plan_rows != rows:
+            self.difference(who + ", the rows of the plan", text, SQL=plan_rows, printed=out)
 
     def random_report(self, text, n, rng, orders):
         self.count["random reports"] += 1
@@ -136,13 +164,13 @@ class Check:
                 self.hold_report(query + order, self.run("report", query + order), rows, "report")
 
 
-def main(name, about, system, ask, count):
+def main(name, about, system, ask, count, run_plan=None):
     """The whole of a check: arguments, texts, counts. Gives the exit status."""
     parser = argparse.ArgumentParser(
         prog=name, usage=name + " [--seed N] [--count N] [--orders N] [REPORT DIRECT]",
         description=about, formatter_class=argparse.RawDescriptionHelpFormatter)
     parser.add_argument("--seed", type=int, default=1)
-    parser.add_argument("--count", type=int, default=count)
+    parser.add_argument("--count", type=int)
     parser.add_argument("--orders", type=int, default=3)
     parser.add_argument("programs", nargs="*")
     given = parser.parse_args()
@@ -152,17 +180,27 @@ def main(name, about, system, ask, count):
         path = dict(zip(("report", "direct"), given.programs))
 
         def run(program, text):
-            return subprocess.run([path[program]], input=text, stdout=subprocess.PIPE).stdout
+            try:
+                done = subprocess.run([path[program]], input=text, stdout=subprocess.PIPE, timeout=30)
+            except subprocess.TimeoutExpired:
+                check.difference(program + " does not end", text)
+                return b""
+            if done.returncode != 0:
+                check.difference("%s ends with status %d" % (program, done.returncode), text)
+            return done.stdout
     else:
         import reference
         run = reference.run
     start = time.monotonic()
-    check = Check(system, ask, run)
+    check = Check(ask, run, run_plan)
     rng = random.Random(given.seed)
     for folder in ("trials", "samples"):
         for path_in in sorted(glob.glob(os.path.join(top, folder, "*.in"))):
             check.file(path_in, rng, given.orders)
-    for text, n in reports.texts(given.seed, given.count):
+    for text, n in reports.texts(given.seed, count if given.count is None else given.count):
+        if given.count is None and time.monotonic() - start > SECONDS:
+            print("stopped after %d seconds; %d random reports were asked for" % (SECONDS, count))
+            break
         check.random_report(text, n, rng, given.orders)
     print("%s, seed %d" % (system, given.seed))
     for counted in sorted(check.count):

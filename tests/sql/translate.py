@@ -22,6 +22,7 @@ class Query:
     def __init__(self, text):
         self.tables = []            # (count of columns, rows as lists of fields)
         self.joins = []             # (kind, left, right, conditions as SQL)
+        self.conditions = []        # all conditions as SQL, by their numbers
         self.pairs = []             # (left, right)
         for line in text.decode("ascii").splitlines():
             letter, *fields = line.split("\t")
@@ -33,23 +34,29 @@ class Query:
                 self.joins.append((fields[0], int(fields[1]), int(fields[2]), []))
             elif letter == "C":
                 table, column, operator, other_table, other_column = fields
-                self.joins[-1][3].append("t%s_c%s %s t%s_c%s" % (
+                self.condition("t%s_c%s %s t%s_c%s" % (
                     table, column, operator, other_table, other_column))
             elif letter == "K":
                 table, column, operator, constant = fields
-                self.joins[-1][3].append("t%s_c%s %s %s" % (table, column, operator, constant))
+                self.condition("t%s_c%s %s %s" % (table, column, operator, constant))
             elif letter == "P":
                 self.pairs.append((int(fields[0]), int(fields[1])))
             else:
                 raise ValueError("not a line of a report: %r" % line)
 
+    def condition(self, sql):
+        self.joins[-1][3].append(sql)
+        self.conditions.append(sql)
+
+    def columns(self, t):
+        return ["t%d_row" % t] + ["t%d_c%d" % (t, c) for c in range(self.tables[t][0])]
+
     def make_tables(self):
         """Statements that make the tables and fill them."""
         statements = []
-        for t, (columns, rows) in enumerate(self.tables):
-            names = ["t%d_row" % t] + ["t%d_c%d" % (t, c) for c in range(columns)]
+        for t, (_, rows) in enumerate(self.tables):
             statements.append("CREATE TEMPORARY TABLE t%d (%s)" % (
-                t, ", ".join(name + " INTEGER" for name in names)))
+                t, ", ".join(name + " INTEGER" for name in self.columns(t))))
             if rows:
                 values = ["(%s)" % ", ".join([str(r)] + ["NULL" if f == "-" else f for f in row])
                           for r, row in enumerate(rows)]
@@ -97,6 +104,54 @@ class Query:
     def last(self):
         """The SELECT that ends the report in steps."""
         return self.select("j%d" % (len(self.joins) - 1) if self.joins else "t0")
+
+    # A plan, as the M, B and Z lines of a print say it.
+
+    def all_of(self, numbers):
+        return " AND ".join(self.conditions[int(number)] for number in numbers)
+
+    def make_plan(self, lines):
+        """Statements that run the plan: one table m0, m1, .. for each M line, b0, b1, .. for
+        each B line, z for Z. Also the name of the last of these tables."""
+        n = len(self.tables)
+        name = lambda node: "t%d" % node if node < n else "m%d" % (node - n)
+        statements, pairs, steps, last = [], 0, 0, "t0"
+
+        def make(table, select):
+            statements.append("CREATE TEMPORARY TABLE %s AS %s" % (table, select))
+            return table
+        for line in lines:
+            letter, *fields = line.split("\t")
+            if letter == "M":
+                kind, one, other, _, *numbers = fields
+                # An outer product is a full join whose condition is always true.
+                last = make("m%d" % pairs, "SELECT * FROM %s %s %s ON %s" % (
+                    name(int(one)), {"I": "INNER JOIN", "L": "LEFT JOIN", "O": "FULL JOIN"}[kind],
+                    name(int(other)), self.all_of(numbers) if kind != "O" else "1 = 1"))
+                pairs += 1
+            elif letter == "B":
+                blanked, *numbers = map(int, fields)
+                columns = []
+                for t in range(n):
+                    for column in self.columns(t):
+                        columns.append(column if t != blanked else "CASE WHEN %s THEN %s END AS %s" % (
+                            self.all_of(numbers), column, column))
+                last = make("b%d" % steps, "SELECT %s FROM %s" % (", ".join(columns), last))
+                steps += 1
+            elif letter == "Z":
+                last = make("z", self.best_match(last))
+        return statements, last
+
+    def best_match(self, source):
+        """The rows of a table that are not wholly blank and that no other row dominates, once each."""
+        rows = ["t%d_row" % t for t in range(len(self.tables))]
+        some = " OR ".join("a.%s IS NOT NULL" % row for row in rows)
+        equal = " AND ".join("(a.%s IS NULL OR a.%s = b.%s)" % (row, row, row) for row in rows)
+        blanks = lambda alias: " + ".join(
+            "CASE WHEN %s.%s IS NULL THEN 1 ELSE 0 END" % (alias, row) for row in rows)
+        return ("SELECT DISTINCT %s FROM %s AS a WHERE (%s) AND NOT EXISTS "
+                "(SELECT 1 FROM %s AS b WHERE %s AND %s > %s)" % (
+                    ", ".join("a." + row for row in rows), source, some, source, equal, blanks("a"), blanks("b")))
 
 
 if __name__ == "__main__":
