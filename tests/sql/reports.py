@@ -42,6 +42,8 @@ def tables(rng, n):
     empty = rng.choice([0, 0, 0, 0.1, 0.3])
     lowest = rng.choice([0, 0, -1, 7])
     highest = lowest + rng.choice([0, 1, 1, 2, 3] if n < 5 else [0, 1, 1, 2])
+    if n in (2, 3) and rng.random() < 0.03:                 # results of about 256 rows
+        most, highest = rng.randint(17, 30), lowest + rng.randint(2, 12)
     lines, columns = [], []
 
     def value():
@@ -51,7 +53,7 @@ def tables(rng, n):
     for _ in range(n):
         columns.append(rng.choice([1, 1, 1, 2, 2, 3, 8]))
         lines.append(["T", columns[-1]])
-        rows = 0 if rng.random() < empty else rng.randint(min(most, 2), most)
+        rows = 0 if rng.random() < empty else rng.randint(min(most, 2) if most < 17 else 15, most)
         for _ in range(rows):
             lines.append(["D"] + ["-" if rng.random() < blanks else value()
                                   for _ in range(columns[-1])])
