@@ -42,7 +42,9 @@ def rows_of(out):
 
 def turned_down(out):
     """The number of a refusal, or None."""
-    return int(out[2:]) if out.startswith(b"E\t") else None
+    if not out.startswith(b"E\t"):
+        return None
+    return int(out[2:]) if out[2:].strip().isdigit() else 0         # 0: no number of a question
 
 
 class Check:
