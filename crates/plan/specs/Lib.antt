@@ -5,6 +5,10 @@ pub mod Sets
 pub mod Plan
 pub mod Steps
 pub mod Questions
+pub mod Bits
+pub mod BitLaws
+pub mod Words
+pub mod WordLaws
 pub mod NodeLaws
 pub mod StageLaws
 pub mod SetLaws

@@ -1,3 +1,4 @@
 // The query of a report, its blanking sets and its plan.
+pub mod bits;
 pub mod query;
 pub mod step;

@@ -1,0 +1,8 @@
+-- Sets of numbers as the bits of a word: bit k is number k. Assumes nothing.
+use mathlib.Core.Bool.{Bool}
+use Prim.Native.Nat.{ℕ, _/_, _%_, _^_}
+use lib.Dec.{eqb}
+
+-- whether a number's bit is set
+unfoldable pub hasBit : ℕ → ℕ → Bool
+hasBit m k = eqb (m / 2 ^ k % 2) 1

@@ -1,0 +1,155 @@
+-- Laws of words: the bits of a choice, of a union and of an intersection of words, and of a list's kept numbers; arrays of words.
+-- Assumes nothing.
+use mathlib.Core.Path.{_≡_, refl, sym, ap, ap₂, _∙_, subst}
+use mathlib.Core.Logic.{_≢_, _⊎_, inl, inr, ⊎-elim, by-cases, _↔_}
+use mathlib.Core.Bool.{Bool, true, false, not, _&&_, _||_}
+use mathlib.Core.List.{List, [], _∷_, _++_, map, map-append}
+use Prim.Native.Nat.{ℕ, zero, suc, _+_, _*_, _-_, _%_, _^_, _<_, _≤_}
+use native.Mathlib.Decide.{ℕ-discrete}
+use native.Mathlib.Numerals.{add-one}
+use native.Mathlib.Omega.{arith}
+use lib.Bits.{bitAnd, bitOr, or-zero-r}
+use lib.Dec.{T, eqb, leb, ltb, eqb→eq}
+use lib.ListN.{length, getD, set, take, length-map, length-set, List·getD-eq-default}
+use lib.Seq.{ext-getD, getD-set-same, getD-set-other, take-suc-set, take-all}
+use borrow.Author.Tests.{lt-ltb, le-ltb}
+use mir.Facts.{and-yes, yes-and, or-yes, yes-ltb, ltb-yes}
+use Rattle.cells.specs.Below.{at-below}
+use Rattle.cells.specs.Choice.{if_then_else_}
+use Rattle.rows.specs.Lists.{range, keep, has}
+use Rattle.rows.specs.ListLaws.{_isIn_, here, there, or-left, or-right, if-intro, if-elim, keep-elim, keep-intro, range-intro, range-elim, append-left, append-right, append-elim}
+use Rattle.plan.specs.Bits.{hasBit}
+use Rattle.plan.specs.Steps.{bitsOf}
+use Rattle.plan.specs.BitLaws.{has-or, has-and, has-none, has-one, has-above, bit-elim, bit-intro, word-is, bits-append, same-test}
+use Rattle.plan.specs.SetLaws.{getD-range}
+use Rattle.plan.specs.BuiltLaws.{length-range}
+use Rattle.plan.specs.Words.{onlyIf, unionTo, everyBit, meetTo, wordTables, tableBits, wordsTo}
+
+-- ---- the code's numbers
+
+-- 1 shifted by a number below 64
+pub shifted-one : (k : ℕ) → k < 64 → 1 * 2 ^ k % 18446744073709551616 ≡ 2 ^ k
+shifted-one k h = eqb→eq (1 * 2 ^ k % 18446744073709551616) (2 ^ k) (at-below (λ i. eqb (1 * 2 ^ i % 18446744073709551616) (2 ^ i)) 64 tt k h)
+
+-- ---- the bits of words, as facts
+
+pub or-elim : (a b k : ℕ) → T (hasBit (bitOr a b) k) → T (hasBit a k) ⊎ T (hasBit b k)
+or-elim a b k h = or-yes (hasBit a k) (hasBit b k) (subst T (has-or a b k) h)
+
+pub or-intro : (a b k : ℕ) → T (hasBit a k) ⊎ T (hasBit b k) → T (hasBit (bitOr a b) k)
+or-intro a b k (inl h) = subst T (sym (has-or a b k)) (or-left (hasBit a k) (hasBit b k) h)
+or-intro a b k (inr h) = subst T (sym (has-or a b k)) (or-right (hasBit a k) (hasBit b k) h)
+
+pub and-elim : (a b k : ℕ) → T (hasBit (bitAnd a b) k) → T (hasBit a k) × T (hasBit b k)
+and-elim a b k h = and-yes (hasBit a k) (hasBit b k) (subst T (has-and a b k) h)
+
+pub and-intro : (a b k : ℕ) → T (hasBit a k) → T (hasBit b k) → T (hasBit (bitAnd a b) k)
+and-intro a b k h g = subst T (sym (has-and a b k)) (yes-and (hasBit a k) (hasBit b k) h g)
+
+pub none-elim : (k : ℕ) → ¬ T (hasBit 0 k)
+none-elim k h = subst T (has-none k) h
+
+pub only-elim : (b : Bool) (w k : ℕ) → T (hasBit (onlyIf b w) k) → T b × T (hasBit w k)
+unfolding onlyIf
+only-elim true w k h = (tt, h)
+only-elim false w k h = absurd (none-elim k h)
+
+pub only-intro : (b : Bool) (w k : ℕ) → T b → T (hasBit w k) → T (hasBit (onlyIf b w) k)
+unfolding onlyIf
+only-intro true w k b h = h
+
+-- ---- unions and intersections of n words
+
+module _ (f : ℕ → ℕ) where
+  pub union-next : (n : ℕ) → unionTo f (n + 1) ≡ bitOr (unionTo f n) (f n)
+  unfolding unionTo
+  union-next n = rw (add-one n)
+
+  pub meet-next : (n : ℕ) → meetTo f (n + 1) ≡ bitAnd (meetTo f n) (f n)
+  unfolding meetTo
+  meet-next n = rw (add-one n)
+
+  pub union-elim : (n k : ℕ) → T (hasBit (unionTo f n) k) → (i : ℕ) × (i < n) × T (hasBit (f i) k)
+  unfolding unionTo
+  union-elim zero k h = absurd (none-elim k h)
+  union-elim (suc n) k h = ⊎-elim
+      (λ x. let (i, l, y) = union-elim n k x in (i, omega arith, y)) (λ x. (n, omega arith, x)) (or-elim (unionTo f n) (f n) k h)
+
+  pub union-intro : (n k i : ℕ) → i < n → T (hasBit (f i) k) → T (hasBit (unionTo f n) k)
+  unfolding unionTo
+  union-intro zero k i l h = absurd (omega arith)
+  union-intro (suc n) k i l h = by-cases (ℕ-discrete i n)
+      (λ e. or-intro (unionTo f n) (f n) k (inr (subst (λ (m : ℕ). T (hasBit (f m) k)) e h)))
+      (λ e. or-intro (unionTo f n) (f n) k (inl (union-intro n k i (omega arith) h)))
+
+  pub meet-elim : (n k : ℕ) → T (hasBit (meetTo f n) k) → (i : ℕ) → i < n → T (hasBit (f i) k)
+  unfolding meetTo
+  meet-elim zero k h i l = absurd (omega arith)
+  meet-elim (suc n) k h i l =
+      let (a, b) = and-elim (meetTo f n) (f n) k h in
+      by-cases (ℕ-discrete i n) (λ e. subst (λ (m : ℕ). T (hasBit (f m) k)) (sym e) b) (λ e. meet-elim n k a i (omega arith))
+
+  pub meet-intro : (n k : ℕ) → k < 64 → ((i : ℕ) → i < n → T (hasBit (f i) k)) → T (hasBit (meetTo f n) k)
+  unfolding meetTo everyBit hasBit
+  meet-intro zero k l h = at-below (λ (i : ℕ). hasBit 18446744073709551615 i) 64 tt k l
+  meet-intro (suc n) k l h = and-intro (meetTo f n) (f n) k (meet-intro n k l (λ i b. h i (omega arith))) (h n (omega arith))
+
+-- ---- kept numbers
+
+range-suc : (s n : ℕ) → range s (suc n) ≡ range s n ++ ((s + n) ∷ [])
+unfolding range
+range-suc s zero = ap (λ (k : ℕ). k ∷ []) (omega arith)
+range-suc s (suc n) = ap (λ (l : List ℕ). s ∷ l) (range-suc (suc s) n ∙ ap (λ (k : ℕ). range (suc s) n ++ (k ∷ [])) (omega arith))
+
+pub range-next : (n : ℕ) → range 0 (n + 1) ≡ range 0 n ++ (n ∷ [])
+range-next n = rw (add-one n) (range-suc 0 n ∙ ap (λ (k : ℕ). range 0 n ++ (k ∷ [])) (omega arith))
+
+pub keep-append : {A : Type 0} (p : A → Bool) (l m : List A) → keep p (l ++ m) ≡ keep p l ++ keep p m
+unfolding keep
+keep-append p [] m = refl
+keep-append {A} p (x ∷ l) m = go (p x) (keep-append p l m)
+  where
+    go : (b : Bool) → keep p (l ++ m) ≡ keep p l ++ keep p m
+        → (if b then x ∷ keep p (l ++ m) else keep p (l ++ m)) ≡ (if b then x ∷ keep p l else keep p l) ++ keep p m
+    go true e = ap (λ (z : List A). x ∷ z) e
+    go false e = e
+
+-- a test that is the same keeps the same
+pub keep-same : {A : Type 0} (p r : A → Bool) (l : List A) → ((x : A) → p x ≡ r x) → keep p l ≡ keep r l
+unfolding keep
+keep-same p r [] e = refl
+keep-same p r (x ∷ l) e = rw (e x, keep-same p r l e)
+
+keep-one : (p : ℕ → Bool) (n : ℕ) → bitsOf (keep p (n ∷ [])) ≡ onlyIf (p n) (2 ^ n)
+unfolding keep bitsOf onlyIf
+keep-one p n = go (p n)
+  where
+    go : (b : Bool) → bitsOf (if b then n ∷ [] else []) ≡ onlyIf b (2 ^ n)
+    go true = or-zero-r (2 ^ n)
+    go false = refl
+
+-- one number more is looked at
+pub keep-next : (p : ℕ → Bool) (n : ℕ) → bitsOf (keep p (range 0 (n + 1))) ≡ bitOr (bitsOf (keep p (range 0 n))) (onlyIf (p n) (2 ^ n))
+keep-next p n = rw (range-next n, keep-append p (range 0 n) (n ∷ [])) (bits-append (keep p (range 0 n)) (keep p (n ∷ [])) ∙ ap (bitOr (bitsOf (keep p (range 0 n)))) (keep-one p n))
+
+-- one table's word
+pub table-bits : (t : ℕ) → t < 64 → tableBits t ≡ 2 ^ t
+unfolding tableBits wordTables keep bitsOf
+table-bits t h = rw (lt-ltb t 64 h) (or-zero-r (2 ^ t))
+
+pub no-table-bits : (t : ℕ) → 64 ≤ t → tableBits t ≡ 0
+unfolding tableBits wordTables keep bitsOf
+no-table-bits t h = rw (le-ltb t 64 h)
+
+-- ---- arrays of words
+
+module _ {A : Type 0} (f : ℕ → A) where
+  pub tab-length : (n : ℕ) → length (map f (range 0 n)) ≡ n
+  tab-length n = length-map (range 0 n) f ∙ length-range 0 n
+
+  pub tab-at : (n i : ℕ) (d : A) → i < n → getD (map f (range 0 n)) i d ≡ f i
+  tab-at n i d h = getD-range f d 0 n i h ∙ ap f (omega arith)
+
+  -- the next element is stored
+  pub tab-next : (l : List A) (i : ℕ) (a : A) → i < length l → take i l ≡ map f (range 0 i) → a ≡ f i → take (i + 1) (set l i a) ≡ map f (range 0 (i + 1))
+  tab-next l i a h e g = rw (range-next i, add-one i) (take-suc-set l i a h ∙ rw (e, g) (sym (map-append f (range 0 i) (i ∷ []))))

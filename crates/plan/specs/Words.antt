@@ -1,0 +1,55 @@
+-- Shapes that serve the contracts of this crate's functions alone; no demand cites them. Sets of conditions and of tables as
+-- words, and lists of them as the code's arrays. Assumes nothing.
+use mathlib.Core.Bool.{Bool, true, false, _&&_, _||_}
+use mathlib.Core.List.{List, [], _∷_, map}
+use Prim.Native.Nat.{ℕ, zero, suc, _+_, _^_}
+use lib.Bits.{bitAnd, bitOr}
+use lib.Dec.{eqb, leb, ltb}
+use lib.ListN.{getD}
+use Rattle.cells.specs.Choice.{if_then_else_}
+use Rattle.rows.specs.Lists.{range, keep}
+use Rattle.plan.specs.Bits.{hasBit}
+use Rattle.plan.specs.Steps.{bitsOf}
+use Rattle.plan.specs.Nodes.{tablesAt}
+use Rattle.plan.specs.Sets.{Sets, setOf}
+
+-- ---- words
+
+-- a word where a test is passed, else the empty set
+unfoldable pub onlyIf : Bool → ℕ → ℕ
+onlyIf b w = if b then w else 0
+
+-- the union of n words
+unfoldable pub unionTo : (ℕ → ℕ) → ℕ → ℕ
+unionTo f zero = 0
+unionTo f (suc n) = bitOr (unionTo f n) (f n)
+
+-- every number below 64
+unfoldable pub everyBit : ℕ
+everyBit = 18446744073709551615
+
+-- the numbers below 64 that are in each of n words
+unfoldable pub meetTo : (ℕ → ℕ) → ℕ → ℕ
+meetTo f zero = everyBit
+meetTo f (suc n) = bitAnd (meetTo f n) (f n)
+
+-- the table numbers that a word has room for
+unfoldable pub wordTables : List ℕ → List ℕ
+wordTables ts = keep (λ t. ltb t 64) ts
+
+unfoldable pub tableBits : ℕ → ℕ
+tableBits t = bitsOf (wordTables (t ∷ []))
+
+-- ---- lists of words
+
+-- the words of n sets
+unfoldable pub wordsTo : (ℕ → List ℕ) → ℕ → List ℕ
+wordsTo f n = map (λ i. bitsOf (f i)) (range 0 n)
+
+-- the sets of eight tables
+unfoldable pub setWords : Sets → List ℕ
+setWords S = wordsTo (setOf S) 8
+
+-- the tables under fifteen nodes
+unfoldable pub nodeWords : List (List ℕ) → List ℕ
+nodeWords nodes = wordsTo (tablesAt nodes) 15
