@@ -7,8 +7,10 @@ pub mod Steps
 pub mod Questions
 pub mod Bits
 pub mod BitLaws
+pub mod Counted
 pub mod Words
 pub mod WordLaws
+pub mod JoinLaws
 pub mod NodeLaws
 pub mod StageLaws
 pub mod SetLaws

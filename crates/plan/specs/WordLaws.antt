@@ -17,7 +17,7 @@ use mir.Facts.{and-yes, yes-and, or-yes, yes-ltb, ltb-yes}
 use Rattle.cells.specs.Below.{at-below}
 use Rattle.cells.specs.Choice.{if_then_else_}
 use Rattle.rows.specs.Lists.{range, keep, has}
-use Rattle.rows.specs.ListLaws.{_isIn_, here, there, or-left, or-right, if-intro, if-elim, keep-elim, keep-intro, range-intro, range-elim, append-left, append-right, append-elim}
+use Rattle.rows.specs.ListLaws.{_isIn_, here, there, has-intro, has-elim, or-left, or-right, if-intro, if-elim, keep-elim, keep-intro, range-intro, range-elim, append-left, append-right, append-elim}
 use Rattle.plan.specs.Bits.{hasBit}
 use Rattle.plan.specs.Steps.{bitsOf}
 use Rattle.plan.specs.BitLaws.{has-or, has-and, has-none, has-one, has-above, bit-elim, bit-intro, word-is, bits-append, same-test}
@@ -103,6 +103,14 @@ range-suc s (suc n) = ap (λ (l : List ℕ). s ∷ l) (range-suc (suc s) n ∙ a
 
 pub range-next : (n : ℕ) → range 0 (n + 1) ≡ range 0 n ++ (n ∷ [])
 range-next n = rw (add-one n) (range-suc 0 n ∙ ap (λ (k : ℕ). range 0 n ++ (k ∷ [])) (omega arith))
+
+-- whether a number is in a range, by its two bounds
+pub range-below : (s n k : ℕ) → k < s → has (range s n) k ≡ false
+range-below s n k h = same-test (has (range s n) k) false (λ t. let (a, b) = range-elim s n (has-elim (range s n) k t) in absurd (omega arith)) (λ t. absurd t)
+
+pub range-has : (s n k : ℕ) → s ≤ k → has (range s n) k ≡ ltb k (s + n)
+range-has s n k h = same-test (has (range s n) k) (ltb k (s + n)) (λ t. yes-ltb (range-elim s n (has-elim (range s n) k t) .1))
+    (λ t. has-intro (range-intro s n k h (ltb-yes t)))
 
 pub keep-append : {A : Type 0} (p : A → Bool) (l m : List A) → keep p (l ++ m) ≡ keep p l ++ keep p m
 unfolding keep

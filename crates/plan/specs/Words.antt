@@ -5,9 +5,13 @@ use mathlib.Core.List.{List, [], _∷_, map}
 use Prim.Native.Nat.{ℕ, zero, suc, _+_, _^_}
 use lib.Bits.{bitAnd, bitOr}
 use lib.Dec.{eqb, leb, ltb}
-use lib.ListN.{getD}
+use lib.ListN.{length, getD}
 use Rattle.cells.specs.Choice.{if_then_else_}
-use Rattle.rows.specs.Lists.{range, keep}
+use Rattle.cells.specs.Condition.{namesOf}
+use Rattle.cells.specs.declared.condition.Condition.{Condition}
+use Rattle.rows.specs.Lists.{range, keep, has}
+use Rattle.plan.specs.Report.{Join, Query, conditionNumbers, conditionAt, namedBy}
+use Rattle.plan.specs.declared.join.BitJoin.{BitJoin}
 use Rattle.plan.specs.Bits.{hasBit}
 use Rattle.plan.specs.Steps.{bitsOf}
 use Rattle.plan.specs.Nodes.{tablesAt}
@@ -39,6 +43,30 @@ wordTables ts = keep (λ t. ltb t 64) ts
 
 unfoldable pub tableBits : ℕ → ℕ
 tableBits t = bitsOf (wordTables (t ∷ []))
+
+-- ---- conditions
+
+-- the tables that a condition names
+unfoldable pub nameBits : Condition → ℕ
+nameBits c = bitsOf (wordTables (namesOf c))
+
+-- the tables that the conditions of a word name, of those that there are
+unfoldable pub namedBits : Query → ℕ → ℕ
+namedBits q w = unionTo (λ k. onlyIf (hasBit w k) (nameBits (conditionAt q k))) (length (q .conditions))
+
+-- the condition numbers of a list, of those that there are
+unfoldable pub conditionBits : Query → List ℕ → ℕ
+conditionBits q C = bitsOf (keep (has C) (conditionNumbers q))
+
+-- a join as the code holds it
+unfoldable pub joinBits : Query → Join → BitJoin
+joinBits q j = record {
+  kind = j .kind;
+  left = j .left;
+  right = j .right;
+  conditions = conditionBits q (j .conditions);
+  names = bitsOf (wordTables (namedBy q (j .conditions)));
+}
 
 -- ---- lists of words
 

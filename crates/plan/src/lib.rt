@@ -1,4 +1,5 @@
 // The query of a report, its blanking sets and its plan.
 pub mod bits;
+pub mod join;
 pub mod query;
 pub mod step;

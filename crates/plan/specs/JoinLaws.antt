@@ -1,0 +1,127 @@
+-- Laws of joins as the code holds them: their conditions and the tables that these name, as bits. Assumes nothing.
+use mathlib.Core.Path.{_≡_, refl, sym, ap, ap₂, _∙_, subst}
+use mathlib.Core.Logic.{_≢_, _⊎_, inl, inr, ⊎-elim, by-cases, _↔_}
+use mathlib.Core.Bool.{Bool, true, false, not, _&&_, _||_}
+use mathlib.Core.List.{List, [], _∷_, _++_, map}
+use Prim.Native.Nat.{ℕ, zero, suc, _+_, _<_, _≤_}
+use native.Mathlib.Omega.{arith}
+use lib.Bits.{bitAnd, bitOr}
+use lib.Dec.{T, ltb, not-T}
+use lib.IntN.{ℤ}
+use lib.ListN.{length, getD, take, length-take, List·getD-eq-default}
+use mir.Facts.{ltb-yes, ltb-no, eqb-yes, yes-eqb}
+use lib.Seq.{getD-take, length-take-le}
+use Rattle.cells.specs.TableLaws.{getD-within}
+use Rattle.cells.specs.Condition.{namesOf, sideNames}
+use Rattle.cells.specs.declared.condition.Condition.{Condition}
+use Rattle.cells.specs.declared.condition.Side.{Side}
+use Rattle.cells.specs.declared.condition.Side.the-variants.{Column, Constant}
+use Rattle.rows.specs.Lists.{range, keep, has}
+use Rattle.rows.specs.ListLaws.{_isIn_, here, there, decT, has-intro, has-elim, keep-elim, keep-intro, range-intro, range-elim, flatMap-intro, flatMap-elim}
+use Rattle.plan.specs.Report.{Join, Query, conditionNumbers, conditionAt, noCondition, namedBy}
+use Rattle.plan.specs.Stored.{queryIn, joinIn}
+use Rattle.plan.specs.Bits.{hasBit}
+use Rattle.plan.specs.Steps.{bitsOf}
+use Rattle.plan.specs.BitLaws.{bit-elim, bit-intro, word-is, bits-append, has-one}
+use Rattle.plan.specs.Words.{onlyIf, unionTo, wordTables, tableBits, nameBits, namedBits, conditionBits, joinBits}
+use Rattle.plan.specs.WordLaws.{or-elim, or-intro, only-elim, only-intro, union-elim, union-intro, keep-append, table-bits}
+use Rattle.plan.specs.declared.query.StoredQuery.{StoredQuery}
+
+-- the conditions that are kept, and how many
+module _ (q : StoredQuery) (h : q .«condition_count» ≤ length (q .conditions)) where
+  pub condition-count : length (queryIn q .conditions) ≡ q .«condition_count»
+  unfolding queryIn
+  condition-count = length-take-le (q .«condition_count») (q .conditions) h
+
+  pub condition-kept : (k : ℕ) (d : Condition) → k < q .«condition_count» → getD (q .conditions) k d ≡ conditionAt (queryIn q) k
+  unfolding queryIn conditionAt
+  condition-kept k d l =
+      getD-within (q .conditions) k d noCondition (omega arith)
+      ∙ sym (getD-take (q .«condition_count») (q .conditions) k noCondition l)
+
+  pub condition-bits : (C : List ℕ) → conditionBits (queryIn q) C ≡ bitsOf (keep (has C) (range 0 (q .«condition_count»)))
+  unfolding conditionBits conditionNumbers
+  condition-bits C = ap (λ (n : ℕ). bitsOf (keep (has C) (range 0 n))) condition-count
+
+-- ---- the tables that one condition names
+
+pub names-column : (c : Condition) (u v : ℕ) → c .side ≡ Column u v → nameBits c ≡ bitOr (tableBits (c .table)) (tableBits u)
+unfolding nameBits namesOf sideNames tableBits wordTables
+names-column c u v e =
+    rw e (ap bitsOf (keep-append (λ (t : ℕ). ltb t 64) (c .table ∷ []) (u ∷ [])) ∙ bits-append (keep (λ t. ltb t 64) (c .table ∷ [])) (keep (λ t. ltb t 64) (u ∷ [])))
+
+pub names-constant : (c : Condition) → (z : ℤ) → c .side ≡ Constant z → nameBits c ≡ tableBits (c .table)
+unfolding nameBits namesOf sideNames tableBits
+names-constant c z e = rw e
+
+-- ---- the tables that a set of conditions names
+
+module _ (q : StoredQuery) (h : q .«condition_count» ≤ length (q .conditions)) where
+  pub named-all : (w k : ℕ) → k ≡ q .«condition_count»
+      → unionTo (λ i. onlyIf (hasBit w i) (nameBits (conditionAt (queryIn q) i))) k ≡ namedBits (queryIn q) w
+  unfolding namedBits
+  named-all w k e =
+      ap (unionTo (λ (i : ℕ). onlyIf (hasBit w i) (nameBits (conditionAt (queryIn q) i)))) (e ∙ sym (condition-count q h))
+
+  pub conditions-all : (C : List ℕ) (k : ℕ) → k ≡ q .«condition_count» → bitsOf (keep (has C) (range 0 k)) ≡ conditionBits (queryIn q) C
+  conditions-all C k e = ap (λ (n : ℕ). bitsOf (keep (has C) (range 0 n))) e ∙ sym (condition-bits q h C)
+
+module _ (q : Query) (C : List ℕ) where
+  -- a condition number that there is, in the list
+  pub condition-elim : (k : ℕ) → T (hasBit (conditionBits q C) k) → k isIn C × (k < length (q .conditions))
+  unfolding conditionBits conditionNumbers
+  condition-elim k t =
+      let (m, b) = keep-elim (has C) (range 0 (length (q .conditions))) (bit-elim (keep (has C) (range 0 (length (q .conditions)))) k t) in
+      (has-elim C k b, let r = range-elim 0 (length (q .conditions)) m in omega arith)
+
+  pub condition-intro : (k : ℕ) → k isIn C → k < length (q .conditions) → T (hasBit (conditionBits q C) k)
+  unfolding conditionBits conditionNumbers
+  condition-intro k m l = bit-intro (keep-intro (has C) (range-intro 0 (length (q .conditions)) k (omega arith) (omega arith)) (has-intro m))
+
+  named-elim : (u : ℕ) → T (hasBit (namedBits q (conditionBits q C)) u) → u isIn wordTables (namedBy q C)
+  unfolding namedBits wordTables namedBy nameBits
+  named-elim u t =
+      let (k, l, x) = union-elim (λ (i : ℕ). onlyIf (hasBit (conditionBits q C) i) (nameBits (conditionAt q i))) (length (q .conditions)) u t in
+      let (a, b) = only-elim (hasBit (conditionBits q C) k) (nameBits (conditionAt q k)) u x in
+      let (m, s) = keep-elim (λ (t : ℕ). ltb t 64) (namesOf (conditionAt q k)) (bit-elim (wordTables (namesOf (conditionAt q k))) u b) in
+      keep-intro (λ (t : ℕ). ltb t 64) (flatMap-intro (λ (c : ℕ). namesOf (conditionAt q c)) (condition-elim k a .0) m) s
+
+  -- a table that is named is named by a condition that there is, or by one that there is not
+  named-cases : (u : ℕ) → u isIn wordTables (namedBy q C)
+      → T (hasBit (namedBits q (conditionBits q C)) u) ⊎ ((u ≡ 0) × ((k : ℕ) × k isIn C × (length (q .conditions) ≤ k)))
+  unfolding namedBits wordTables namedBy nameBits conditionAt noCondition namesOf sideNames
+  named-cases u m =
+      let (n, s) = keep-elim (λ (t : ℕ). ltb t 64) (namedBy q C) m in
+      let (k, c, x) = flatMap-elim (λ (c : ℕ). namesOf (conditionAt q c)) C n in
+      by-cases (decT (ltb k (length (q .conditions))))
+      (λ l. inl (union-intro (λ (i : ℕ). onlyIf (hasBit (conditionBits q C) i) (nameBits (conditionAt q i))) (length (q .conditions)) u k (ltb-yes l)
+      (only-intro (hasBit (conditionBits q C) k) (nameBits (conditionAt q k)) u (condition-intro k c (ltb-yes l))
+      (bit-intro (keep-intro (λ (t : ℕ). ltb t 64) x s)))))
+      (λ l. let b : length (q .conditions) ≤ k = ltb-no (not-T (ltb k (length (q .conditions))) l) in
+      inr (single (subst (λ (d : Condition). u isIn namesOf d) (List·getD-eq-default (q .conditions) noCondition b) x), (k, c, b)))
+    where
+      single : u isIn (0 ∷ []) → u ≡ 0
+      single (here e) = e
+
+  -- a condition that there is not names table 0
+  zero-is : (k : ℕ) → k isIn C → length (q .conditions) ≤ k → (u : ℕ) → u ≡ 0 → u isIn wordTables (namedBy q C)
+  unfolding wordTables namedBy conditionAt noCondition namesOf sideNames
+  zero-is k c b u e = keep-intro (λ (t : ℕ). ltb t 64) (flatMap-intro (λ (c : ℕ). namesOf (conditionAt q c)) c
+      (subst (λ (d : Condition). u isIn namesOf d) (sym (List·getD-eq-default (q .conditions) noCondition b)) (here e))) (rw e tt)
+
+  -- where each of the conditions is there
+  pub named-within : ((k : ℕ) → k isIn C → k < length (q .conditions)) → namedBits q (conditionBits q C) ≡ bitsOf (wordTables (namedBy q C))
+  named-within within = word-is (namedBits q (conditionBits q C)) (wordTables (namedBy q C)) (λ u. (
+    named-elim u,
+    λ m. ⊎-elim (λ x. x) (λ (e, r). let (k, c, b) = r in absurd (let l = within k c in omega arith)) (named-cases u m),
+  ))
+
+  -- where one of them is not
+  pub named-beyond : (k : ℕ) → k isIn C → length (q .conditions) ≤ k → bitOr (namedBits q (conditionBits q C)) 1 ≡ bitsOf (wordTables (namedBy q C))
+  named-beyond k c b = word-is (bitOr (namedBits q (conditionBits q C)) 1) (wordTables (namedBy q C)) (λ u. (
+    λ t. ⊎-elim (named-elim u) (λ x. zero-named u (eqb-yes (subst T (has-one 0 u) x))) (or-elim (namedBits q (conditionBits q C)) 1 u t),
+    λ m. or-intro (namedBits q (conditionBits q C)) 1 u (⊎-elim inl (λ (e, r). inr (subst T (sym (has-one 0 u)) (yes-eqb e))) (named-cases u m)),
+  ))
+    where
+      zero-named : (u : ℕ) → u ≡ 0 → u isIn wordTables (namedBy q C)
+      zero-named u e = zero-is k c b u e
