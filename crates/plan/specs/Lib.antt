@@ -11,6 +11,7 @@ pub mod Counted
 pub mod Words
 pub mod WordLaws
 pub mod JoinLaws
+pub mod SetWords
 pub mod NodeLaws
 pub mod StageLaws
 pub mod SetLaws

@@ -52,7 +52,7 @@ module _ (q : Query) where
   abbrev pub Gains : List ℕ → Sets → List ℕ → ℕ → Type 0
   Gains C S other k = (k isIn C) ⊎ ((d u : ℕ) × d isIn C × u isIn namesOf (conditionAt q d) × u isIn other × k isIn setOf S u)
 
-  taken-elim : (C : List ℕ) (S : Sets) (other mine : List ℕ) (k : ℕ) → k isIn taken q C S other mine → k isIn mine ⊎ Gains C S other k
+  pub taken-elim : (C : List ℕ) (S : Sets) (other mine : List ℕ) (k : ℕ) → k isIn taken q C S other mine → k isIn mine ⊎ Gains C S other k
   unfolding taken namedBy
   taken-elim C S other mine k m =
       let (i, h) = keep-elim _ (conditionNumbers q) m in
@@ -64,7 +64,7 @@ module _ (q : Query) where
       inr (inr (d, u, e, f, has-elim other u o, has-elim (setOf S u) k s)))
       (or-yes (has mine k || has C k) _ h)
 
-  taken-intro : (C : List ℕ) (S : Sets) (other mine : List ℕ) (k : ℕ) → k isIn conditionNumbers q → k isIn mine ⊎ Gains C S other k
+  pub taken-intro : (C : List ℕ) (S : Sets) (other mine : List ℕ) (k : ℕ) → k isIn conditionNumbers q → k isIn mine ⊎ Gains C S other k
       → k isIn taken q C S other mine
   unfolding taken namedBy
   taken-intro C S other mine k i g = keep-intro (λ (c : ℕ). has mine c || has C c || any (λ u. has other u && has (setOf S u) c) (namedBy q C)) i (test g)

@@ -15,7 +15,7 @@ use Rattle.plan.specs.declared.join.BitJoin.{BitJoin}
 use Rattle.plan.specs.Bits.{hasBit}
 use Rattle.plan.specs.Steps.{bitsOf}
 use Rattle.plan.specs.Nodes.{tablesAt}
-use Rattle.plan.specs.Sets.{Sets, setOf}
+use Rattle.plan.specs.Sets.{Sets, setOf, blanksLeft, blanksRight}
 
 -- ---- words
 
@@ -81,3 +81,25 @@ setWords S = wordsTo (setOf S) 8
 -- the tables under fifteen nodes
 unfoldable pub nodeWords : List (List ℕ) → List ℕ
 nodeWords nodes = wordsTo (tablesAt nodes) 15
+
+-- ---- the set rule
+
+-- the conditions that are in the set of one of these tables
+unfoldable pub gatherBits : List ℕ → ℕ → ℕ
+gatherBits sets tables = unionTo (λ t. onlyIf (hasBit tables t) (getD sets t 0)) 8
+
+-- what a table takes: one word as a table of the left side, another as a table of the right side
+unfoldable pub gainBits : ℕ → ℕ → ℕ → ℕ → ℕ → ℕ
+gainBits left right toLeft toRight t = if hasBit left t then toLeft else if hasBit right t then toRight else 0
+
+unfoldable pub takenWords : List ℕ → ℕ → ℕ → ℕ → ℕ → List ℕ
+takenWords sets left right toLeft toRight = map (λ t. bitOr (getD sets t 0) (gainBits left right toLeft toRight t)) (range 0 8)
+
+-- the sets after a join, given the tables under each node
+unfoldable pub afterWords : List ℕ → List ℕ → BitJoin → List ℕ
+afterWords nodes sets j =
+    takenWords sets
+    (onlyIf (blanksLeft (j .kind)) (getD nodes (j .left) 0))
+    (onlyIf (blanksRight (j .kind)) (getD nodes (j .right) 0))
+    (bitOr (j .conditions) (gatherBits sets (bitAnd (j .names) (getD nodes (j .right) 0))))
+    (bitOr (j .conditions) (gatherBits sets (bitAnd (j .names) (getD nodes (j .left) 0))))

@@ -2,4 +2,5 @@
 pub mod bits;
 pub mod join;
 pub mod query;
+pub mod sets;
 pub mod step;
