@@ -12,6 +12,8 @@ pub mod Words
 pub mod WordLaws
 pub mod JoinLaws
 pub mod SetWords
+pub mod OrderWords
+pub mod NodeWords
 pub mod NodeLaws
 pub mod StageLaws
 pub mod SetLaws

@@ -10,11 +10,11 @@ use Rattle.cells.specs.Choice.{if_then_else_}
 use Rattle.cells.specs.Condition.{namesOf}
 use Rattle.cells.specs.declared.condition.Condition.{Condition}
 use Rattle.rows.specs.Lists.{range, keep, has}
-use Rattle.plan.specs.Report.{Join, Query, conditionNumbers, conditionAt, namedBy}
+use Rattle.plan.specs.Report.{Join, Pair, Query, conditionNumbers, conditionAt, namedBy}
 use Rattle.plan.specs.declared.join.BitJoin.{BitJoin}
 use Rattle.plan.specs.Bits.{hasBit}
 use Rattle.plan.specs.Steps.{bitsOf}
-use Rattle.plan.specs.Nodes.{tablesAt}
+use Rattle.plan.specs.Nodes.{grown, tablesAt, tablesOfPair}
 use Rattle.plan.specs.Sets.{Sets, setOf, blanksLeft, blanksRight}
 
 -- ---- words
@@ -81,6 +81,14 @@ setWords S = wordsTo (setOf S) 8
 -- the tables under fifteen nodes
 unfoldable pub nodeWords : List (List ℕ) → List ℕ
 nodeWords nodes = wordsTo (tablesAt nodes) 15
+
+-- the nodes that are tables
+unfoldable pub leafWords : ℕ → List ℕ
+leafWords n = nodeWords (map (λ t. t ∷ []) (range 0 n))
+
+-- the nodes that pairs make of n tables
+unfoldable pub nodesFrom : ℕ → List Pair → List (List ℕ)
+nodesFrom n ps = grown tablesOfPair (map (λ t. t ∷ []) (range 0 n)) ps
 
 -- ---- the set rule
 
