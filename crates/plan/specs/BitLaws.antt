@@ -95,6 +95,10 @@ unfolding bitsOf has any
 has-bits [] k = has-none k
 has-bits (j ∷ C) k = has-or (2 ^ j) (bitsOf C) k ∙ rw (has-one j k, has-bits C k)
 
+pub bits-none : bitsOf [] ≡ 0
+unfolding bitsOf
+bits-none = refl
+
 pub bit-elim : (C : List ℕ) (k : ℕ) → T (hasBit (bitsOf C) k) → k isIn C
 bit-elim C k h = has-elim C k (subst T (has-bits C k) h)
 

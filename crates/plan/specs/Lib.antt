@@ -14,6 +14,7 @@ pub mod JoinLaws
 pub mod SetWords
 pub mod OrderWords
 pub mod NodeWords
+pub mod FoldWords
 pub mod NodeLaws
 pub mod StageLaws
 pub mod SetLaws

@@ -1,5 +1,6 @@
 // The query of a report, its blanking sets and its plan.
 pub mod bits;
+pub mod blanking;
 pub mod join;
 pub mod order;
 pub mod query;
