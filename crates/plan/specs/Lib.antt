@@ -15,6 +15,8 @@ pub mod SetWords
 pub mod OrderWords
 pub mod NodeWords
 pub mod FoldWords
+pub mod TreeWords
+pub mod TreeWordLaws
 pub mod NodeLaws
 pub mod StageLaws
 pub mod SetLaws

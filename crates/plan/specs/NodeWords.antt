@@ -87,36 +87,36 @@ module _ (q : StoredQuery) where
 
 -- ---- one node more
 
-module _ (nodes : List (List ℕ)) (x : List ℕ) (room : length nodes < 15) where
-  abbrev more : List (List ℕ)
-  more = nodes ++ (x ∷ [])
+-- an element more, and the word of what it stands for
+pub grow-words : {A : Type 0} (g : A → List ℕ) (d : A) (l : List A) (x : A) → length l < 15
+    → set (wordsTo (λ i. g (getD l i d)) 15) (length l) (bitsOf (g x)) ≡ wordsTo (λ i. g (getD (l ++ (x ∷ [])) i d)) 15
+unfolding wordsTo
+grow-words {A} g d l x room = ext-getD 0 (set (map old (range 0 15)) (length l) (bitsOf (g x))) (map new (range 0 15))
+    (length-set (map old (range 0 15)) (length l) (bitsOf (g x)) ∙ tab-length old 15 ∙ sym (tab-length new 15)) each
+  where
+    old : ℕ → ℕ
+    old i = bitsOf (g (getD l i d))
 
-  pub node-next : set (nodeWords nodes) (length nodes) (bitsOf x) ≡ nodeWords (nodes ++ (x ∷ []))
-  unfolding nodeWords wordsTo tablesAt
-  node-next = ext-getD 0 (set (nodeWords nodes) (length nodes) (bitsOf x)) (nodeWords more)
-      (length-set (nodeWords nodes) (length nodes) (bitsOf x) ∙ old-length ∙ sym new-length) each
-    where
-      old-length : length (nodeWords nodes) ≡ 15
-      old-length = tab-length (λ (i : ℕ). bitsOf (tablesAt nodes i)) 15
+    new : ℕ → ℕ
+    new i = bitsOf (g (getD (l ++ (x ∷ [])) i d))
 
-      new-length : length (nodeWords more) ≡ 15
-      new-length = tab-length (λ (i : ℕ). bitsOf (tablesAt more i)) 15
+    at-old : (i : ℕ) → i ≢ length l → getD (l ++ (x ∷ [])) i d ≡ getD l i d
+    at-old i e = by-cases (decT (ltb i (length l))) (λ h. List·getD-append l (x ∷ []) d i (ltb-yes h))
+        (λ h. let b : length l ≤ i = ltb-no (not-T (ltb i (length l)) h) in
+        List·getD-eq-default (l ++ (x ∷ [])) d (omega (arith, length-append l (x ∷ []))) ∙ sym (List·getD-eq-default l d b))
 
-      few : length more ≤ 15
-      few = omega (arith, length-append nodes (x ∷ []))
+    each : (i : ℕ) → i < length (set (map old (range 0 15)) (length l) (bitsOf (g x))) → getD (set (map old (range 0 15)) (length l) (bitsOf (g x))) i 0 ≡ getD (map new (range 0 15)) i 0
+    each i h =
+        let b : i < 15 = omega (arith, length-set (map old (range 0 15)) (length l) (bitsOf (g x)), tab-length old 15) in
+        by-cases (ℕ-discrete i (length l))
+        (λ e. rw e (getD-set-same (map old (range 0 15)) (length l) (bitsOf (g x)) 0 (omega (arith, tab-length old 15))
+        ∙ sym (tab-at new 15 (length l) 0 room ∙ ap (λ (y : A). bitsOf (g y)) (getD-append-seam l x [] d))))
+        (λ e. getD-set-other (map old (range 0 15)) (length l) i (bitsOf (g x)) 0 e ∙ tab-at old 15 i 0 b
+        ∙ sym (tab-at new 15 i 0 b ∙ ap (λ (y : A). bitsOf (g y)) (at-old i e)))
 
-      each : (i : ℕ) → i < length (set (nodeWords nodes) (length nodes) (bitsOf x)) → getD (set (nodeWords nodes) (length nodes) (bitsOf x)) i 0 ≡ getD (nodeWords more) i 0
-      each i h = by-cases (ℕ-discrete i (length nodes))
-          (λ e. rw e (getD-set-same (nodeWords nodes) (length nodes) (bitsOf x) 0 (omega (arith, old-length)) ∙ sym (node-word more few (length nodes) ∙ ap bitsOf (at-new))))
-          (λ e. getD-set-other (nodeWords nodes) (length nodes) i (bitsOf x) 0 e ∙ node-word nodes (omega arith) i ∙ sym (node-word more few i ∙ ap bitsOf (at-old i e)))
-        where
-          at-new : tablesAt more (length nodes) ≡ x
-          at-new = getD-append-seam nodes x [] []
-
-          at-old : (i : ℕ) → i ≢ length nodes → tablesAt more i ≡ tablesAt nodes i
-          at-old i e = by-cases (decT (ltb i (length nodes))) (λ l. List·getD-append nodes (x ∷ []) [] i (ltb-yes l))
-              (λ l. let b : length nodes ≤ i = ltb-no (not-T (ltb i (length nodes)) l) in
-              List·getD-eq-default more [] (omega (arith, length-append nodes (x ∷ []))) ∙ sym (List·getD-eq-default nodes [] b))
+pub node-next : (nodes : List (List ℕ)) (x : List ℕ) → length nodes < 15 → set (nodeWords nodes) (length nodes) (bitsOf x) ≡ nodeWords (nodes ++ (x ∷ []))
+unfolding nodeWords tablesAt
+node-next nodes x h = grow-words (λ (l : List ℕ). l) [] nodes x h
 
 -- a table more
 pub leaf-next : (t : ℕ) → t < 8 → set (leafWords t) t (2 ^ t) ≡ leafWords (t + 1)

@@ -34,7 +34,7 @@ tab-same f g s (suc n) e = ap₂ (λ x l. x ∷ l) (e s (omega arith) (omega ari
 -- ---- reading the arrays
 
 -- a word of an array that has all the words that are not 0
-words-at : (f : ℕ → List ℕ) (n i : ℕ) → (n ≤ i → f i ≡ []) → getD (wordsTo f n) i 0 ≡ bitsOf (f i)
+pub words-at : (f : ℕ → List ℕ) (n i : ℕ) → (n ≤ i → f i ≡ []) → getD (wordsTo f n) i 0 ≡ bitsOf (f i)
 unfolding wordsTo bitsOf
 words-at f n i h = by-cases (decT (ltb i n)) (λ l. tab-at (λ (k : ℕ). bitsOf (f k)) n i 0 (ltb-yes l))
     (λ l. let b : n ≤ i = ltb-no (not-T (ltb i n) l) in

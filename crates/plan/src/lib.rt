@@ -5,4 +5,5 @@ pub mod join;
 pub mod order;
 pub mod query;
 pub mod sets;
+pub mod simplified;
 pub mod step;
