@@ -11,8 +11,8 @@ use Rattle.rows.specs.ListLaws.{_isIn_, here, there, decT, range-elim, append-e
 use Rattle.plan.specs.Report.{Join, Pair, Query, tableCount, tableNumbers, joinPairs}
 use Rattle.plan.specs.Stored.{queryIn, joinIn}
 use Rattle.plan.specs.Steps.{bitsOf}
-use Rattle.plan.specs.Nodes.{grown, tablesAt, tablesOfPair, nodesOf}
-use Rattle.plan.specs.Sets.{Sets, setOf, setsAfter, setsBy, emptySets}
+use Rattle.plan.specs.Nodes.{grown, tablesAt, tablesOfPair, nodesOf, joinNodes}
+use Rattle.plan.specs.Sets.{Sets, setOf, setsAfter, setsBy, emptySets, blankingSets}
 use Rattle.plan.specs.BuiltLaws.{length-range}
 use Rattle.plan.specs.BitLaws.{bits-none}
 use Rattle.plan.specs.Words.{wordsTo, setWords, nodeWords, joinBits, afterWords}
@@ -59,9 +59,13 @@ module _ (q : Query) (nodes : List (List ℕ)) where
   proper-by [] S p = p
   proper-by (j ∷ js) S p = proper-by js (setsAfter q nodes j S) (proper-after q nodes j S p)
 
+pub blanking-proper : (q : Query) → Proper q (blankingSets q)
+unfolding blankingSets
+blanking-proper q = proper-by q (joinNodes q) (q .joins) (emptySets q) (proper-empty q)
+
 module _ (q : Query) (ps : List Pair) (small : tableCount q ≤ 8) (few : length ps ≤ 7) where
-  nodes-few : length (nodesOf q ps) ≤ 15
-  nodes-few = omega (arith, node-count (tableCount q) ps, ap length (nodes-from q (tableCount q) ps ps refl refl))
+  pub nodes-most : length (nodesOf q ps) ≤ 15
+  nodes-most = omega (arith, node-count (tableCount q) ps, ap length (nodes-from q (tableCount q) ps ps refl refl))
 
   -- the sets so far
   abbrev setsTo : List Join → Sets
@@ -73,7 +77,7 @@ module _ (q : Query) (ps : List Pair) (small : tableCount q ≤ 8) (few : length
       → afterWords nodes sets b ≡ setWords (setsBy q (nodesOf q ps) (take (i + 1) js) (emptySets q))
   sets-turn js i j nodes sets b h at e f g =
       rw (e, f, g, take-next js i j h, at, sets-last q (nodesOf q ps) (take i js) j (emptySets q))
-      (after-words q (nodesOf q ps) nodes-few (nodes-below q ps) small j (setsTo (take i js)) (proper-by q (nodesOf q ps) (take i js) (emptySets q) (proper-empty q)))
+      (after-words q (nodesOf q ps) nodes-most (nodes-below q ps) small j (setsTo (take i js)) (proper-by q (nodesOf q ps) (take i js) (emptySets q) (proper-empty q)))
 
 -- ---- the sets at first, and those of the J lines
 
@@ -95,6 +99,10 @@ module _ (q : StoredQuery) where
   pub tables-most : tableCount (queryIn q) ≤ q .«table_count»
   unfolding tableCount queryIn
   tables-most = omega (arith, length-take (q .«table_count») (q .layout .columns))
+
+  pub conditions-most : length (queryIn q .conditions) ≤ q .«condition_count»
+  unfolding queryIn
+  conditions-most = omega (arith, length-take (q .«condition_count») (q .conditions))
 
   pub joins-most : length (joinPairs (queryIn q)) ≤ q .«join_count»
   unfolding joinPairs queryIn

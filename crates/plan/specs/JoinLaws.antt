@@ -66,6 +66,10 @@ module _ (q : StoredQuery) (h : q .«condition_count» ≤ length (q .conditions
   pub conditions-all : (C : List ℕ) (k : ℕ) → k ≡ q .«condition_count» → bitsOf (keep (has C) (range 0 k)) ≡ conditionBits (queryIn q) C
   conditions-all C k e = ap (λ (n : ℕ). bitsOf (keep (has C) (range 0 n))) e ∙ sym (condition-bits q h C)
 
+  pub numbers-all : (p : ℕ → Bool) (k : ℕ) → k ≡ q .«condition_count» → bitsOf (keep p (range 0 k)) ≡ bitsOf (keep p (conditionNumbers (queryIn q)))
+  unfolding conditionNumbers
+  numbers-all p k e = ap (λ (n : ℕ). bitsOf (keep p (range 0 n))) (e ∙ sym (condition-count q h))
+
 module _ (q : Query) (C : List ℕ) where
   -- a condition number that there is, in the list
   pub condition-elim : (k : ℕ) → T (hasBit (conditionBits q C) k) → k isIn C × (k < length (q .conditions))

@@ -17,6 +17,8 @@ pub mod NodeWords
 pub mod FoldWords
 pub mod TreeWords
 pub mod TreeWordLaws
+pub mod PairWords
+pub mod PairWordLaws
 pub mod NodeLaws
 pub mod StageLaws
 pub mod SetLaws

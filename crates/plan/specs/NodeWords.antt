@@ -85,6 +85,19 @@ module _ (q : StoredQuery) where
       some (suc n) [] j h k = absurd (omega arith)
       some (suc n) (p ∷ l) j h k = refl
 
+-- the pairs one by one
+module _ (o : Order) (ps : List Pair) (is : OrderIs o ps) where
+  pub order-count : length ps ≡ o .count
+  unfolding orderIn
+  order-count =
+      sym (ap length (is .pairs)) ∙ length-map (take (o .count) (o .pairs)) pairIn ∙ length-take-le (o .count) (o .pairs) (omega (arith, is .room, is .full))
+
+  pub order-at : (i : ℕ) (p d : StoredPair) → i < o .count → getD (o .pairs) i d ≡ p → getD ps i (pairIn p) ≡ pairIn p
+  unfolding orderIn
+  order-at i p d h e =
+      ap (λ (l : List Pair). getD l i (pairIn p)) (sym (is .pairs))
+      ∙ kept-at pairIn (o .count) (o .pairs) i d (pairIn p) h (omega (arith, is .room, is .full)) ∙ ap pairIn e
+
 -- ---- one node more
 
 -- an element more, and the word of what it stands for

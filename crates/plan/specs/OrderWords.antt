@@ -3,7 +3,7 @@
 use mathlib.Core.Path.{_≡_}
 use mathlib.Core.List.{List, map}
 use Prim.Native.Nat.{ℕ, _≤_}
-use lib.ListN.{take}
+use lib.ListN.{length, take}
 use Rattle.plan.specs.Report.{Pair}
 use Rattle.plan.specs.Stored.{pairIn}
 use Rattle.plan.specs.declared.query.StoredJoin.{StoredJoin}
@@ -21,4 +21,5 @@ orderIn o = map pairIn (take (o .count) (o .pairs))
 -- these pairs are held, within the array's room
 pub record OrderIs (o : Order) (ps : List Pair) : Type 0 where
   pub room : o .count ≤ 7
+  pub full : length (o .pairs) ≡ 7
   pub pairs : orderIn o ≡ ps

@@ -37,6 +37,10 @@ unfoldable pub meetTo : (ℕ → ℕ) → ℕ → ℕ
 meetTo f zero = everyBit
 meetTo f (suc n) = bitAnd (meetTo f n) (f n)
 
+-- a word where a test is passed, else every number below 64
+unfoldable pub everyUnless : Bool → ℕ → ℕ
+everyUnless b w = if b then w else everyBit
+
 -- the table numbers that a word has room for
 unfoldable pub wordTables : List ℕ → List ℕ
 wordTables ts = keep (λ t. ltb t 64) ts

@@ -2,10 +2,13 @@
 ghost use mathlib.Core.Path.{_≡_};
 ghost use Prim.Native.Nat.{_<_, _^_};
 ghost use Rattle.plan.specs.Bits.{hasBit};
-ghost use Rattle.plan.specs.Words.{onlyIf, tableBits};
+ghost use Rattle.plan.specs.Words.{onlyIf, everyUnless, tableBits};
 
 // How many numbers a word has.
 pub const WIDTH: u64 = 64;
+
+// Every number below 64.
+pub const EVERY: u64 = 18446744073709551615;
 
 // Whether a number is in the set.
 pub fn member(s: u64, k: u64) -> bool
@@ -33,6 +36,16 @@ pub fn only(test: bool, s: u64) -> u64
         return s;
     }
     0
+}
+
+// The set where the test is passed, else every number below 64.
+pub fn every_unless(test: bool, s: u64) -> u64
+    ensures { λ r. ⌜ r ≡ everyUnless test s ⌝ }
+{
+    if test {
+        return s;
+    }
+    EVERY
 }
 
 // The set of one table number; a number that no table has is left out.

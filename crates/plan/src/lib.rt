@@ -3,6 +3,7 @@ pub mod bits;
 pub mod blanking;
 pub mod join;
 pub mod order;
+pub mod pairs;
 pub mod query;
 pub mod sets;
 pub mod simplified;
