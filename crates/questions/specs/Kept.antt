@@ -1,0 +1,76 @@
+-- Laws of lists that are looked at one element after the other: what is left of an array's first elements, of a range, and of
+-- a test of every or of some element. Assumes nothing.
+use mathlib.Core.Path.{_≡_, refl, sym, ap, ap₂, _∙_}
+use mathlib.Core.Bool.{Bool, true, false, _&&_, _||_}
+use mathlib.Core.List.{List, [], _∷_, map}
+use Prim.Native.Nat.{ℕ, suc, _+_, _-_, _<_, _≤_}
+use native.Mathlib.Numerals.{add-one}
+use native.Mathlib.Omega.{arith}
+use lib.ListN.{length, getD, take, drop, length-map, length-drop}
+use lib.Seq.{drop-cons, length-take-le}
+use Rattle.rows.specs.Lists.{range, all, any}
+use Rattle.plan.specs.NodeWords.{kept-at}
+
+-- ---- tests
+
+pub first-no : (a b : Bool) → a ≡ false → (a && b) ≡ false
+first-no a b e = rw e
+
+pub first-yes : (a b : Bool) → a ≡ true → (a && b) ≡ b
+first-yes a b e = rw e
+
+pub either-yes : (a b : Bool) → a ≡ true → (a || b) ≡ true
+either-yes a b e = rw e
+
+pub either-no : (a b : Bool) → a ≡ false → (a || b) ≡ b
+either-no a b e = rw e
+
+module _ {A : Type 0} where
+  -- tests that agree on every element
+  pub all-same : (p r : A → Bool) (l : List A) → ((x : A) → p x ≡ r x) → all p l ≡ all r l
+  unfolding all
+  all-same p r [] e = refl
+  all-same p r (x ∷ l) e = ap₂ _&&_ (e x) (all-same p r l e)
+
+  pub any-same : (p r : A → Bool) (l : List A) → ((x : A) → p x ≡ r x) → any p l ≡ any r l
+  unfolding any
+  any-same p r [] e = refl
+  any-same p r (x ∷ l) e = ap₂ _||_ (e x) (any-same p r l e)
+
+-- ---- an array's first elements
+
+module _ {A B : Type 0} (f : A → B) (n : ℕ) (l : List A) (h : n ≤ length l) where
+  pub kept-length : length (map f (take n l)) ≡ n
+  kept-length = length-map (take n l) f ∙ length-take-le n l h
+
+  -- the next element
+  pub kept-drop : (i : ℕ) (x : A) → i < n → ((d : A) → getD l i d ≡ x) → drop i (map f (take n l)) ≡ f x ∷ drop (i + 1) (map f (take n l))
+  kept-drop i x k at =
+      drop-cons (map f (take n l)) i (f x) (omega (arith, kept-length))
+      ∙ ap₂ (λ (y : B) (m : ℕ). y ∷ drop m (map f (take n l))) (kept-at f n l i x (f x) k h ∙ ap f (at x)) (sym (add-one i))
+
+  -- no element is left
+  pub kept-end : (i : ℕ) → n ≤ i → drop i (map f (take n l)) ≡ []
+  kept-end i k = none (drop i (map f (take n l))) (omega (arith, length-drop i (map f (take n l)), kept-length))
+    where
+      none : (m : List B) → length m ≡ 0 → m ≡ []
+      none [] e = refl
+      none (x ∷ m) e = absurd (omega arith)
+
+-- ---- ranges
+
+-- the next number
+pub range-cons : (k e : ℕ) → k < e → range k (e - k) ≡ k ∷ range (k + 1) (e - (k + 1))
+unfolding range
+range-cons k e h = first (e - k) (e - (k + 1)) (omega arith)
+  where
+    first : (m r : ℕ) → m ≡ suc r → range k m ≡ k ∷ range (k + 1) r
+    first m r q = rw (q, add-one k)
+
+-- no number is left
+pub range-end : (k e : ℕ) → e ≤ k → range k (e - k) ≡ []
+unfolding range
+range-end k e h = none (e - k) (omega arith)
+  where
+    none : (m : ℕ) → m ≡ 0 → range k m ≡ []
+    none m q = rw q

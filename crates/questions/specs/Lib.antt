@@ -1,0 +1,5 @@
+pub mod Kept
+pub mod TreeLines
+pub mod BuiltWords
+pub mod BuiltWordLaws
+pub mod BuiltQuestions
