@@ -1,25 +1,18 @@
 -- Questions 5 and 9 of the query that is kept, by the code's tests. Assumes nothing.
 use mathlib.Core.Path.{_≡_, refl, sym, ap, ap₂, _∙_}
-use mathlib.Core.Bool.{Bool, true, false, _&&_}
+use mathlib.Core.Bool.{true, _&&_}
 use mathlib.Core.List.{List, [], _∷_, map}
 use Prim.Native.Nat.{ℕ, zero, suc, _<_, _≤_}
 use native.Mathlib.Omega.{arith}
 use lib.Dec.{leb}
 use lib.ListN.{length, take}
-use borrow.Author.Tests.{le-leb, lt-leb}
 use Rattle.plan.specs.Report.{Pair, tableCount, joinPairs}
 use Rattle.plan.specs.Stored.{queryIn, pairIn}
 use Rattle.plan.specs.Questions.{wellBuilt, question5, noneOrBuilt, question9}
 use Rattle.plan.specs.NodeWords.{table-count}
 use Rattle.plan.specs.declared.query.StoredPair.{StoredPair}
 use Rattle.plan.specs.declared.query.StoredQuery.{StoredQuery}
-
--- more lines than are kept
-pub too-many : (n most : ℕ) (b : Bool) → most < n → (leb n most && b) ≡ false
-too-many n most b h = rw (lt-leb n most h)
-
-pub enough-room : (n most : ℕ) (b : Bool) → n ≤ most → (leb n most && b) ≡ b
-enough-room n most b h = rw (le-leb n most h)
+use Rattle.questions.specs.Kept.{enough-room}
 
 module _ (q : StoredQuery) where
   pub no-pairs : q .«pair_count» ≡ 0 → (leb (q .«pair_count») 7 && question9 (queryIn q)) ≡ true

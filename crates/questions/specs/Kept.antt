@@ -1,29 +1,26 @@
 -- Laws of lists that are looked at one element after the other: what is left of an array's first elements, of a range, and of
--- a test of every or of some element. Assumes nothing.
+-- a test of every or of some element; counts against their room. Assumes nothing.
 use mathlib.Core.Path.{_≡_, refl, sym, ap, ap₂, _∙_}
 use mathlib.Core.Bool.{Bool, true, false, _&&_, _||_}
 use mathlib.Core.List.{List, [], _∷_, map}
 use Prim.Native.Nat.{ℕ, suc, _+_, _-_, _<_, _≤_}
 use native.Mathlib.Numerals.{add-one}
 use native.Mathlib.Omega.{arith}
+use lib.Dec.{leb}
 use lib.ListN.{length, getD, take, drop, length-map, length-drop}
 use lib.Seq.{drop-cons, length-take-le}
+use borrow.Author.Tests.{le-leb, lt-leb}
 use Rattle.rows.specs.Lists.{range, all, any}
 use Rattle.plan.specs.NodeWords.{kept-at}
 
 -- ---- tests
 
-pub first-no : (a b : Bool) → a ≡ false → (a && b) ≡ false
-first-no a b e = rw e
+-- more lines than there is room for, or not
+pub too-many : (n most : ℕ) (b : Bool) → most < n → (leb n most && b) ≡ false
+too-many n most b h = rw (lt-leb n most h)
 
-pub first-yes : (a b : Bool) → a ≡ true → (a && b) ≡ b
-first-yes a b e = rw e
-
-pub either-yes : (a b : Bool) → a ≡ true → (a || b) ≡ true
-either-yes a b e = rw e
-
-pub either-no : (a b : Bool) → a ≡ false → (a || b) ≡ b
-either-no a b e = rw e
+pub enough-room : (n most : ℕ) (b : Bool) → n ≤ most → (leb n most && b) ≡ b
+enough-room n most b h = rw (le-leb n most h)
 
 module _ {A : Type 0} where
   -- tests that agree on every element
@@ -36,6 +33,34 @@ module _ {A : Type 0} where
   unfolding any
   any-same p r [] e = refl
   any-same p r (x ∷ l) e = ap₂ _||_ (e x) (any-same p r l e)
+
+  module _ (p : A → Bool) (l : List A) where
+    -- no element is left
+    pub all-end : l ≡ [] → all p l ≡ true
+    unfolding all
+    all-end e = rw e
+
+    pub any-end : l ≡ [] → any p l ≡ false
+    unfolding any
+    any-end e = rw e
+
+    -- the next element decides, or not
+    module _ (x : A) (rest : List A) (e : l ≡ x ∷ rest) where
+      pub all-stop : p x ≡ false → all p l ≡ false
+      unfolding all
+      all-stop f = rw (e, f)
+
+      pub all-turn : p x ≡ true → all p l ≡ all p rest
+      unfolding all
+      all-turn f = rw (e, f)
+
+      pub any-stop : p x ≡ true → any p l ≡ true
+      unfolding any
+      any-stop f = rw (e, f)
+
+      pub any-turn : p x ≡ false → any p l ≡ any p rest
+      unfolding any
+      any-turn f = rw (e, f)
 
 -- ---- an array's first elements
 

@@ -3,3 +3,5 @@ pub mod TreeLines
 pub mod BuiltWords
 pub mod BuiltWordLaws
 pub mod BuiltQuestions
+pub mod ConditionWords
+pub mod ConditionWordLaws

@@ -1,0 +1,73 @@
+-- `questions::crossing::line_crosses` meets its contract: the answer is that of the numbers that are left. Assumes nothing.
+use mathlib.Core.Path.{_≡_, sym, ap, _∙_}
+use Prim.Native.Nat.{ℕ, _≤_, _-_}
+use native.Mathlib.Omega.{arith}
+use Rattle.rows.specs.Lists.{range, any}
+use Rattle.plan.specs.Stored.{queryIn}
+use Rattle.questions.specs.Kept.{any-end, any-stop, any-turn, range-cons, range-end}
+use Rattle.questions.specs.ConditionWords.{numberCrosses}
+use Rattle.questions.specs.ConditionWordLaws.{number-crosses}
+use borrow.Author.Needs.{needs}
+use Rattle.questions.proofs.crossing.line_crosses.Statement.{statement}
+use Rattle.questions.proofs.crossing.line_crosses.Tie as tie
+
+abbrev Inv-loop : tie.InvT-loop
+Inv-loop q left right first count end k₀ k = (k ≤ end) × (any (numberCrosses (queryIn q) left right) (range first count) ≡ any (numberCrosses (queryIn q) left right) (range k (end - k)))
+
+abbrev μ-loop : tie.MeasureT-loop
+μ-loop q left right first count end k₀ k = end - k
+
+add-end : tie.Need-add-end Inv-loop μ-loop
+add-end c = search needs
+
+loop-holds : tie.Need-loop-holds Inv-loop μ-loop
+loop-holds c =
+    let a = c .args in
+    (search needs, ap (λ (n : ℕ). any (numberCrosses (queryIn (a .q)) (a .left) (a .right)) (range (a .first) n)) (omega arith))
+
+condition-at-requires : tie.Need-condition-at-requires Inv-loop μ-loop
+condition-at-requires c κs = search needs
+
+side-crosses-requires : tie.Need-side-crosses-requires Inv-loop μ-loop
+side-crosses-requires c κs = search needs
+
+returns : tie.Need-returns Inv-loop μ-loop
+returns c =
+    let e = c .before .before in
+    let l = e .before .before in
+    sym (l .loop .inv .1 ∙ any-stop _ _ _ _ (range-cons _ _ (e .before .loop-test .taken))
+    (sym (number-crosses _ _ _ (e .condition-at .ensures) _ _) ∙ sym (c .before .side-crosses .ensures) ∙ c .if1 .taken))
+
+add-k : tie.Need-add-k Inv-loop μ-loop
+add-k c = search needs
+
+loop-less : tie.Need-loop-less Inv-loop μ-loop
+loop-less c = search needs
+
+loop-again : tie.Need-loop-again Inv-loop μ-loop
+loop-again c =
+    let e = c .before .before in
+    let l = e .before .before in (
+      search needs,
+      l .loop .inv .1 ∙ any-turn _ _ _ _ (range-cons _ _ (e .before .loop-test .taken))
+          (sym (number-crosses _ _ _ (e .condition-at .ensures) _ _) ∙ sym (c .before .side-crosses .ensures) ∙ c .if1 .left),
+    )
+
+returns-2 : tie.Need-returns-2 Inv-loop μ-loop
+returns-2 c = sym (c .before .loop .inv .1 ∙ any-end _ _ (range-end _ _ (c .loop-test .left)))
+
+pub line-crosses-spec : {M : Type 1} → statement M
+line-crosses-spec =
+    tie.close
+    (tie.spec
+    Inv-loop
+    μ-loop
+    add-end
+    loop-holds
+    condition-at-requires
+    side-crosses-requires
+    returns
+    add-k
+    loop-less
+    loop-again
+    returns-2)
