@@ -1,18 +1,13 @@
 -- Laws of the first entries of rows, written one after another. Assumes nothing.
-use mathlib.Core.Path.{_≡_, refl, sym, ap, _∙_}
-use mathlib.Core.List.{List, [], _∷_, _++_, flatMap, append-assoc, append-nil}
+use mathlib.Core.Path.{_≡_, sym, ap, _∙_}
+use mathlib.Core.List.{List, [], _∷_, _++_, flatMap, append-nil}
 use Prim.Native.Nat.{ℕ, _+_, _*_, _≤_}
 use native.Mathlib.Numerals.{add-one}
 use native.Mathlib.Omega.{arith}
 use lib.ListN.{length, take, drop, length-append, length-drop}
 use lib.Seq.{paste, take-at, take-take, drop-append-add, drop-drop, length-take-le}
-use Rattle.cells.specs.Row.{Row}
 use Rattle.joins.specs.Buffers.{rowAt, rowsIn}
-
-flatMap-append : (f : Row → List ℕ) (xs ys : List Row) → flatMap f (xs ++ ys) ≡ flatMap f xs ++ flatMap f ys
-unfolding flatMap
-flatMap-append f [] ys = refl
-flatMap-append f (x ∷ xs) ys = ap (λ (r : List ℕ). f x ++ r) (flatMap-append f xs ys) ∙ sym (append-assoc (f x) (flatMap f xs) (flatMap f ys))
+use Rattle.finish.specs.MapLaws.{flatMap-append}
 
 -- the first n entries of each of the first k rows of a buffer
 unfoldable pub entries : List ℕ → ℕ → ℕ → List ℕ
