@@ -6,3 +6,7 @@ pub mod Questions
 pub mod Print
 pub mod ReadingLaws
 pub mod QueryLines
+pub mod Parts
+pub mod Digits
+pub mod Answers
+pub mod Ranges

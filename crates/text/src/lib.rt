@@ -1,1 +1,3 @@
 // The report text and the print.
+pub mod number;
+pub mod part;
