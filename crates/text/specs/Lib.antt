@@ -10,3 +10,5 @@ pub mod Parts
 pub mod Digits
 pub mod Answers
 pub mod Ranges
+pub mod FieldAnswers
+pub mod Fields

@@ -8,11 +8,12 @@ use Prim.Native.Nat.{ℕ, zero, suc, _-_, _<_, _≤_}
 use native.Mathlib.Omega.{arith}
 use lib.Dec.{leb, eqb}
 use lib.IntN.{ℤ, pos, negsuc, negℤ}
+use lib.Signed.{mag}
 use lib.ListN.{length, getD, take, drop}
 use borrow.Author.Tests.{leb-true, leb-false, eq-eqb, ne-eqb}
 use Rattle.cells.specs.Choice.{if_then_else_}
 use Rattle.cells.specs.Cell.{blankCell, cellOf}
-use Rattle.cells.specs.CellLaws.{positive-outside, negative-outside}
+use Rattle.cells.specs.CellLaws.{positive-within, positive-outside, negative-within, negative-outside}
 use Rattle.cells.specs.declared.cell.Made.{Made}
 use Rattle.cells.specs.declared.cell.Made.the-variants.{Value, OutOfRange}
 use Rattle.cells.proofs.Lists.{tail-part}
@@ -142,3 +143,49 @@ cell-long f h = rw (differ-length f 45 h)
 pub cell-other : (f : Bytes) → (getD f 0 0 ≡ 45 → ⊥) → constant f ≡ cell f
 unfolding cell bytes
 cell-other f e = rw (differ-one f 45 e)
+
+-- ---- a cell fits 32 bits
+
+value-fits : {z w : ℤ} {m : Made} → some z ≡ ifMade m → m ≡ Value w → z ≡ w
+unfolding ifMade
+value-fits {z} {w} e h = let g : _≡_ {A = Option ℤ} (some z) (some w) = rw h at e in cc
+
+outside-none : {z : ℤ} {m : Made} → some z ≡ ifMade m → m ≡ OutOfRange → ⊥
+unfolding ifMade
+outside-none {z} e h = let g : _≡_ {A = Option ℤ} (some z) none = rw h at e in let k : _≡_ {A = ℕ} 0 1 = cc in omega arith
+
+made-fits : (w z : ℤ) → some z ≡ ifMade (cellOf w) → mag z < 2147483648
+made-fits (pos a) z e = go (leb a 2147483647) refl
+  where
+    go : (t : Bool) → leb a 2147483647 ≡ t → mag z < 2147483648
+    go true l =
+        let h : a ≤ 2147483647 = leb-true a 2147483647 l in
+        let k : mag z ≡ a = ap mag (value-fits e (positive-within a h)) in
+        omega arith
+    go false l = absurd (outside-none e (positive-outside a (leb-false a 2147483647 l)))
+made-fits (negsuc a) z e = go (leb a 2147483646) refl
+  where
+    go : (t : Bool) → leb a 2147483646 ≡ t → mag z < 2147483648
+    go true l =
+        let h : a ≤ 2147483646 = leb-true a 2147483646 l in
+        let k : mag z ≡ a = ap mag (value-fits e (negative-within (suc a) (omega arith))) in
+        omega arith
+    go false l =
+        let h : 2147483646 < a = leb-false a 2147483646 l in
+        absurd (outside-none e (negative-outside (suc a) (omega arith)))
+
+ranged-fits : (o : Option ℤ) (z : ℤ) → some z ≡ ranged o → mag z < 2147483648
+unfolding ranged
+ranged-fits none z e = absurd (let k : _≡_ {A = ℕ} 0 1 = cc in omega arith)
+ranged-fits (some w) z e = made-fits w z e
+
+pub constant-fits : (f : Bytes) (z : ℤ) → some z ≡ constant f → mag z < 2147483648
+constant-fits f z e = ranged-fits (number f) z (e ∙ constant-is f)
+
+pub cell-fits : (f : Bytes) (z : ℤ) → some z ≡ cell f → mag z < 2147483648
+unfolding cell blankCell
+cell-fits f z e = go (sameBytes f (bytes "-")) e
+  where
+    go : (t : Bool) → some z ≡ (if t then some (negsuc 2147483647) else constant f) → mag z < 2147483648
+    go true e = let h : z ≡ negsuc 2147483647 = cc in let k : mag z ≡ 2147483647 = ap mag h in omega arith
+    go false e = constant-fits f z e

@@ -1,15 +1,28 @@
 // Fields of a line: each answer has the place where the next field begins, past the line's end if there is none.
-use cells::cell::Made;
-use rows::kind::Kind;
 use crate::number;
 use crate::number::Small;
 use crate::part;
+use cells::cell::Made;
+use rows::kind::Kind;
 ghost use mathlib.Core.Path.{_≡_};
 ghost use Rattle.text.specs.Parts.{fieldsFrom};
 ghost use Rattle.text.specs.Numbers.{constant};
-ghost use Rattle.text.specs.Lines.{field, numberField, operatorField};
-ghost use Rattle.text.specs.Fields.{kindRead, operatorRead, pairField, storedKind};
-ghost use Rattle.text.specs.FieldAnswers.{codeIn, kindIn, numberAt, pairAt, operatorAt, kindAt, constantAt};
+ghost use mathlib.Core.List.{[], _∷_};
+ghost use Rattle.text.specs.Lines.{field, numberField, operatorField, kindField};
+ghost use Rattle.text.specs.Fields.{operatorRead, pairField, storedKind};
+ghost use Rattle.text.specs.FieldAnswers.{codeIn, numberAt, pairAt, operatorAt, kindAt, constantAt};
+
+// The bytes of operators.
+const LESS: u8 = 60;
+
+const EQUAL: u8 = 61;
+
+const GREATER: u8 = 62;
+
+// The kinds of a J line, I and L.
+const INNER: u8 = 73;
+
+const LEFT: u8 = 76;
 
 // A table, column or node field, or T's count.
 pub enum NumberAt {
@@ -74,15 +87,101 @@ pub fn pair_at(l: &[u8], at: usize) -> PairAt
     PairAt::Value(a, b, next)
 }
 
+// The operator that a byte is.
+pub fn code_of_one(b: u8) -> Code
+    ensures { λ r. ⌜ codeIn r ≡ operatorRead (b ∷ []) ⌝ }
+{
+    if b == LESS {
+        return Code::Value(1);
+    }
+    if b == EQUAL {
+        return Code::Value(2);
+    }
+    if b == GREATER {
+        return Code::Value(4);
+    }
+    Code::Bad
+}
+
+// The operator that two bytes are.
+pub fn code_of_two(a: u8, b: u8) -> Code
+    ensures { λ r. ⌜ codeIn r ≡ operatorRead (a ∷ b ∷ []) ⌝ }
+{
+    if a == LESS {
+        if b == EQUAL {
+            return Code::Value(3);
+        }
+        if b == GREATER {
+            return Code::Value(5);
+        }
+        return Code::Bad;
+    }
+    if a != GREATER {
+        return Code::Bad;
+    }
+    if b != EQUAL {
+        return Code::Bad;
+    }
+    Code::Value(6)
+}
+
 // The whole of `f` as an operator.
 pub fn operator_code(f: &[u8]) -> Code
     ensures { λ r. ⌜ codeIn r ≡ operatorRead (now (f .entry)) ⌝ }
 {
     if f.len() == 1 {
-        return code_of_one(f);
+        return code_of_one(f[0]);
     }
-    if f.len() == 2 {
-        return code_of_two(f);
+    if f.len() != 2 {
+        return Code::Bad;
     }
-    Code::Bad
+    code_of_two(f[0], f[1])
+}
+
+pub fn operator_at(l: &[u8], at: usize) -> OperatorAt
+    ensures { λ r. ⌜ operatorAt (now (l .entry)) r ≡ operatorField (fieldsFrom (now (l .entry)) at) ⌝ }
+{
+    if l.len() < at {
+        return OperatorAt::Bad;
+    }
+    let to = part::part_end(l, at, part::TAB);
+    let o = operator_code(&l[at..to]);
+    let Code::Value(v) = o else {
+        return OperatorAt::Bad;
+    };
+    OperatorAt::Value(v, to + 1)
+}
+
+pub fn constant_at(l: &[u8], at: usize) -> ConstantAt
+    ensures { λ r. ⌜ constantAt (now (l .entry)) r ≡ field constant (fieldsFrom (now (l .entry)) at) ⌝ }
+{
+    if l.len() < at {
+        return ConstantAt::Bad;
+    }
+    let to = part::part_end(l, at, part::TAB);
+    let m = number::constant_number(&l[at..to]);
+    let Made::Value(z) = m else {
+        return ConstantAt::Bad;
+    };
+    ConstantAt::Value(z, to + 1)
+}
+
+pub fn kind_at(l: &[u8], at: usize) -> KindAt
+    ensures { λ r. ⌜ kindAt (now (l .entry)) r ≡ storedKind (kindField (fieldsFrom (now (l .entry)) at)) ⌝ }
+{
+    if l.len() < at {
+        return KindAt::Bad;
+    }
+    let to = part::part_end(l, at, part::TAB);
+    if to != at + 1 {
+        return KindAt::Bad;
+    }
+    let b = l[at];
+    if b == INNER {
+        return KindAt::Value(Kind::Inner, to + 1);
+    }
+    if b == LEFT {
+        return KindAt::Value(Kind::Outer, to + 1);
+    }
+    KindAt::Bad
 }
