@@ -12,3 +12,4 @@ pub mod Answers
 pub mod Ranges
 pub mod FieldAnswers
 pub mod Fields
+pub mod Forms

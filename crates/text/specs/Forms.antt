@@ -1,0 +1,493 @@
+-- Serves the code's readers of lines; no demand cites it but what a line's reading says, `lineRead`. The forms of lines behind
+-- their letters. Assumes nothing.
+use mathlib.Core.Path.{_≡_, refl, sym, ap, _∙_, subst}
+use mathlib.Core.Bool.{Bool, true, false, _&&_, and-false}
+use mathlib.Core.List.{List, [], _∷_}
+use mathlib.Core.Option.{Option, none, some}
+use Prim.Native.Nat.{ℕ, zero, suc, _+_, _-_, _<_, _≤_}
+use Prim.Native.String.{String}
+use native.Mathlib.Nat.{add-zero, zero-add, add-suc, suc-add}
+use native.Mathlib.Numerals.{add-one}
+use native.Mathlib.Omega.{arith}
+use lib.Dec.{eqb}
+use lib.IntN.{ℤ}
+use lib.Signed.{mag}
+use lib.ListN.{length, getD, take, drop, length-take, length-drop}
+use lib.Seq.{getD-take, length-take-le}
+use borrow.Author.Tests.{eq-eqb, ne-eqb}
+use Rattle.cells.specs.Choice.{if_then_else_}
+use Rattle.cells.specs.declared.condition.Condition.{Condition}
+use Rattle.cells.specs.declared.condition.Side.the-variants.{Column, Constant}
+use Rattle.rows.specs.declared.kind.Kind.{Kind}
+use Rattle.text.specs.Bytes.{Bytes, bytes, tab, sameBytes, split}
+use Rattle.text.specs.Numbers.{cell, constant}
+use Rattle.text.specs.Lines.{JoinKind, kindOf, Line, tableLine, rowLine, joinLine, conditionLine, orderLine, Form, _>>=_, _>>_, field, oneOf, end, both, readAll, word, numberField, kindField, operatorField, cellFields, formT, formD, formJ, formC, formK, formP, firstOf, lineOf}
+use Rattle.text.specs.Parts.{until, partsAfter, fieldsFrom, split-until, field-here, fields-none, fields-all}
+use Rattle.text.specs.Ranges.{differ-one, differ-length, constant-fits}
+use Rattle.text.specs.Fields.{fieldOf, field-cons, pairField, bothOf, secondOf, storedKind}
+use Rattle.text.specs.declared.line.LineRead.{LineRead}
+use Rattle.text.specs.declared.line.LineRead.the-variants as R
+
+-- what the reading of a line says: of a D line, how many cells it has
+abbrev pub lineRead : Option Line → LineRead
+lineRead none = R.NoForm
+lineRead (some (tableLine n)) = R.Table n
+lineRead (some (rowLine zs)) = R.Row (length zs)
+lineRead (some (joinLine k l r)) = R.Join (kindOf k) l r
+lineRead (some (conditionLine c)) = R.Condition c
+lineRead (some (orderLine l r)) = R.Order l r
+
+-- the line that a form gives
+abbrev pub given : Option (Line × List Bytes) → Option Line
+given none = none
+given (some r) = some (r .0)
+
+abbrev pub formRead : Option (Line × List Bytes) → LineRead
+formRead o = lineRead (given o)
+
+-- ---- the forms behind the letters
+
+unfoldable pub tableForm : Form Line
+tableForm = do
+  n ← numberField
+  end (tableLine n)
+
+unfoldable pub rowForm : Form Line
+rowForm = do
+  zs ← cellFields
+  end (rowLine zs)
+
+unfoldable pub joinForm : Form Line
+joinForm = do
+  k ← kindField
+  l ← numberField
+  r ← numberField
+  end (joinLine k l r)
+
+unfoldable pub columnForm : Form Line
+columnForm = do
+  t ← numberField
+  c ← numberField
+  o ← operatorField
+  u ← numberField
+  d ← numberField
+  end (conditionLine (record { table = t; column = c; operator = o; side = Column u d }))
+
+unfoldable pub constantForm : Form Line
+constantForm = do
+  t ← numberField
+  c ← numberField
+  o ← operatorField
+  z ← field constant
+  end (conditionLine (record { table = t; column = c; operator = o; side = Constant z }))
+
+unfoldable pub orderForm : Form Line
+orderForm = do
+  l ← numberField
+  r ← numberField
+  end (orderLine l r)
+
+-- ---- one form and then another
+
+-- the value and what is left, handed on
+unfoldable pub handed : {A B : Type 0} → (A → Form B) → Option (A × List Bytes) → Option (B × List Bytes)
+handed f none = none
+handed f (some r) = f (r .0) (r .1)
+
+pub then-handed : {A B : Type 0} (m : Form A) (f : A → Form B) (fs : List Bytes) → (m >>= f) fs ≡ handed f (m fs)
+unfolding handed
+then-handed {A} {B} m f fs = go (m fs)
+  where
+    go : (o : Option (A × List Bytes)) → _≡_ {A = Option (B × List Bytes)} (elim o [ none ↦ none | some r ↦ f (r .0) (r .1) ]) (handed f o)
+    go none = refl
+    go (some r) = refl
+
+-- a form that gives a value, and one that gives none
+module _ {A B : Type 0} (m : Form A) (f : A → Form B) (fs : List Bytes) where
+  pub then-some : {a : A} {gs : List Bytes} → some (a, gs) ≡ m fs → f a gs ≡ (m >>= f) fs
+  unfolding handed
+  then-some e = ap (handed f) e ∙ sym (then-handed m f fs)
+
+  pub then-none : none ≡ m fs → none ≡ (m >>= f) fs
+  unfolding handed
+  then-none e = ap (handed f) e ∙ sym (then-handed m f fs)
+
+-- two number fields, and then a form
+unfoldable pub paired : {B : Type 0} → (ℕ → ℕ → Form B) → Option ((ℕ × ℕ) × List Bytes) → Option (B × List Bytes)
+paired f none = none
+paired f (some r) = f (r .0 .0) (r .0 .1) (r .1)
+
+module _ {B : Type 0} (f : ℕ → ℕ → Form B) (fs : List Bytes) where
+  abbrev after : Form B
+  after = numberField >>= λ a. numberField >>= λ b. f a b
+
+  second-paired : (a : ℕ) (o : Option (ℕ × List Bytes)) → handed (λ b. f a b) o ≡ paired f (secondOf a o)
+  unfolding handed paired secondOf
+  second-paired a none = refl
+  second-paired a (some r) = refl
+
+  both-paired : (o : Option (ℕ × List Bytes)) → handed (λ a. numberField >>= λ b. f a b) o ≡ paired f (bothOf o)
+  unfolding handed paired bothOf
+  both-paired none = refl
+  both-paired (some r) = then-handed numberField (λ b. f (r .0) b) (r .1) ∙ second-paired (r .0) (numberField (r .1))
+
+  after-paired : paired f (pairField fs) ≡ after fs
+  unfolding pairField
+  after-paired = sym (then-handed numberField (λ a. numberField >>= λ b. f a b) fs ∙ both-paired (numberField fs))
+
+  pub pair-some : {a b : ℕ} {gs : List Bytes} → some ((a, b), gs) ≡ pairField fs → f a b gs ≡ after fs
+  unfolding paired
+  pair-some e = ap (paired f) e ∙ after-paired
+
+  pub pair-none : none ≡ pairField fs → none ≡ after fs
+  unfolding paired
+  pair-none e = ap (paired f) e ∙ after-paired
+
+-- ---- the end of a line
+
+module _ {A : Type 0} (a : A) (l : Bytes) (at : ℕ) where
+  pub end-here : length l < at → some (a, []) ≡ end a (fieldsFrom l at)
+  unfolding end
+  end-here h = rw (fields-none l at h)
+
+  pub end-more : at ≤ length l → none ≡ end a (fieldsFrom l at)
+  unfolding end
+  end-more h = rw (field-here l at (at + until tab (drop at l)) refl h)
+
+-- ---- T, J, C, K and P lines
+
+module _ (fs : List Bytes) where
+  pub table-none : none ≡ numberField fs → R.NoForm ≡ formRead (tableForm fs)
+  unfolding tableForm
+  table-none e = ap formRead (then-none numberField (λ n. end (tableLine n)) fs e)
+
+  pub table-end : {n : ℕ} {gs : List Bytes} {o : Option (Line × List Bytes)} → some (n, gs) ≡ numberField fs
+      → o ≡ end (tableLine n) gs → formRead o ≡ formRead (tableForm fs)
+  unfolding tableForm
+  table-end e g = ap formRead (g ∙ then-some numberField (λ n. end (tableLine n)) fs e)
+
+  pub order-none : none ≡ pairField fs → R.NoForm ≡ formRead (orderForm fs)
+  unfolding orderForm
+  order-none e = ap formRead (pair-none (λ a b. end (orderLine a b)) fs e)
+
+  pub order-end : {a b : ℕ} {gs : List Bytes} {o : Option (Line × List Bytes)} → some ((a, b), gs) ≡ pairField fs
+      → o ≡ end (orderLine a b) gs → formRead o ≡ formRead (orderForm fs)
+  unfolding orderForm
+  order-end e g = ap formRead (g ∙ pair-some (λ a b. end (orderLine a b)) fs e)
+
+-- the kind that is kept is that of the line
+kept-none : (o : Option (JoinKind × List Bytes)) → none ≡ storedKind o → none ≡ o
+unfolding storedKind
+kept-none none e = refl
+kept-none (some r) e = absurd (let z : _≡_ {A = ℕ} 0 1 = cc in omega arith)
+
+kept-some : (o : Option (JoinKind × List Bytes)) {k : Kind} {gs : List Bytes} → some (k, gs) ≡ storedKind o
+    → (j : JoinKind) × (k ≡ kindOf j) × (some (j, gs) ≡ o)
+unfolding storedKind
+kept-some none e = absurd (let z : _≡_ {A = ℕ} 0 1 = cc in omega arith)
+kept-some (some r) {k} {gs} e =
+    let p : _≡_ {A = Kind × List Bytes} (k, gs) (kindOf (r .0), r .1) = cc in
+    (r .0, ap (λ (x : Kind × List Bytes). x .0) p, ap (λ (x : List Bytes). some (r .0, x)) (ap (λ (x : Kind × List Bytes). x .1) p))
+
+abbrev sides : JoinKind → Form Line
+sides j = numberField >>= λ a. numberField >>= λ b. end (joinLine j a b)
+
+module _ (fs : List Bytes) where
+  pub join-none : none ≡ storedKind (kindField fs) → R.NoForm ≡ formRead (joinForm fs)
+  unfolding joinForm
+  join-none e = ap formRead (then-none kindField sides fs (kept-none (kindField fs) e))
+
+  pub join-no-sides : {k : Kind} {gs : List Bytes} → some (k, gs) ≡ storedKind (kindField fs) → none ≡ pairField gs
+      → R.NoForm ≡ formRead (joinForm fs)
+  unfolding joinForm
+  join-no-sides {k} {gs} e g =
+      let (j, h, i) = kept-some (kindField fs) e in
+      ap formRead (pair-none (λ a b. end (joinLine j a b)) gs g ∙ then-some kindField sides fs i)
+
+  pub join-more : {k : Kind} {a b : ℕ} {gs hs : List Bytes} → some (k, gs) ≡ storedKind (kindField fs)
+      → some ((a, b), hs) ≡ pairField gs → ((j : JoinKind) → none ≡ end (joinLine j a b) hs)
+      → R.NoForm ≡ formRead (joinForm fs)
+  unfolding joinForm
+  join-more {k} {a} {b} {gs} {hs} e g x =
+      let (j, h, i) = kept-some (kindField fs) e in
+      ap formRead (x j ∙ pair-some (λ a b. end (joinLine j a b)) gs g ∙ then-some kindField sides fs i)
+
+  pub join-end : {k : Kind} {a b : ℕ} {gs hs : List Bytes} → some (k, gs) ≡ storedKind (kindField fs)
+      → some ((a, b), hs) ≡ pairField gs → ((j : JoinKind) → some (joinLine j a b, []) ≡ end (joinLine j a b) hs)
+      → R.Join k a b ≡ formRead (joinForm fs)
+  unfolding joinForm
+  join-end {k} {a} {b} {gs} {hs} e g x =
+      let (j, h, i) = kept-some (kindField fs) e in
+      ap (λ (y : Kind). R.Join y a b) h
+      ∙ ap formRead (x j ∙ pair-some (λ a b. end (joinLine j a b)) gs g ∙ then-some kindField sides fs i)
+
+-- what follows the first column and the operator of a condition
+abbrev columnSide : ℕ → ℕ → ℕ → Form Line
+columnSide t c o =
+    numberField >>= λ u. numberField >>= λ d.
+    end (conditionLine (record { table = t; column = c; operator = o; side = Column u d }))
+
+abbrev constantSide : ℕ → ℕ → ℕ → Form Line
+constantSide t c o =
+    field constant >>= λ z. end (conditionLine (record { table = t; column = c; operator = o; side = Constant z }))
+
+module _ (fs : List Bytes) where
+  pub column-none : none ≡ pairField fs → R.NoForm ≡ formRead (columnForm fs)
+  unfolding columnForm
+  column-none e = ap formRead (pair-none (λ t c. operatorField >>= λ o. columnSide t c o) fs e)
+
+  pub constant-none : none ≡ pairField fs → R.NoForm ≡ formRead (constantForm fs)
+  unfolding constantForm
+  constant-none e = ap formRead (pair-none (λ t c. operatorField >>= λ o. constantSide t c o) fs e)
+
+module _ (fs : List Bytes) {t c : ℕ} {gs : List Bytes} (e : some ((t, c), gs) ≡ pairField fs) where
+  pub column-no-operator : none ≡ operatorField gs → R.NoForm ≡ formRead (columnForm fs)
+  unfolding columnForm
+  column-no-operator g =
+      ap formRead (then-none operatorField (λ o. columnSide t c o) gs g
+      ∙ pair-some (λ t c. operatorField >>= λ o. columnSide t c o) fs e)
+
+  pub constant-no-operator : none ≡ operatorField gs → R.NoForm ≡ formRead (constantForm fs)
+  unfolding constantForm
+  constant-no-operator g =
+      ap formRead (then-none operatorField (λ o. constantSide t c o) gs g
+      ∙ pair-some (λ t c. operatorField >>= λ o. constantSide t c o) fs e)
+
+module _ (fs : List Bytes) {t c o : ℕ} {gs hs : List Bytes} (e : some ((t, c), gs) ≡ pairField fs)
+    (g : some (o, hs) ≡ operatorField gs) where
+  column-side : columnSide t c o hs ≡ columnForm fs
+  unfolding columnForm
+  column-side =
+      then-some operatorField (λ o. columnSide t c o) gs g ∙ pair-some (λ t c. operatorField >>= λ o. columnSide t c o) fs e
+
+  constant-side : constantSide t c o hs ≡ constantForm fs
+  unfolding constantForm
+  constant-side =
+      then-some operatorField (λ o. constantSide t c o) gs g ∙ pair-some (λ t c. operatorField >>= λ o. constantSide t c o) fs e
+
+  pub column-no-side : none ≡ pairField hs → R.NoForm ≡ formRead (columnForm fs)
+  column-no-side h =
+      ap formRead (pair-none
+      (λ u d. end (conditionLine (record { table = t; column = c; operator = o; side = Column u d }))) hs h ∙ column-side)
+
+  pub constant-no-side : none ≡ field constant hs → R.NoForm ≡ formRead (constantForm fs)
+  constant-no-side h =
+      ap formRead (then-none (field constant)
+      (λ z. end (conditionLine (record { table = t; column = c; operator = o; side = Constant z }))) hs h ∙ constant-side)
+
+  pub column-end : {u d : ℕ} {is : List Bytes} {r : Option (Line × List Bytes)} → some ((u, d), is) ≡ pairField hs
+      → r ≡ end (conditionLine (record { table = t; column = c; operator = o; side = Column u d })) is
+      → formRead r ≡ formRead (columnForm fs)
+  column-end h x =
+      ap formRead (x ∙ pair-some
+      (λ u d. end (conditionLine (record { table = t; column = c; operator = o; side = Column u d }))) hs h ∙ column-side)
+
+  pub constant-end : {z : ℤ} {is : List Bytes} {r : Option (Line × List Bytes)} → some (z, is) ≡ field constant hs
+      → r ≡ end (conditionLine (record { table = t; column = c; operator = o; side = Constant z })) is
+      → formRead r ≡ formRead (constantForm fs)
+  constant-end h x =
+      ap formRead (x ∙ then-some (field constant)
+      (λ z. end (conditionLine (record { table = t; column = c; operator = o; side = Constant z }))) hs h ∙ constant-side)
+
+-- a constant fits 32 bits
+pub field-fits : (fs : List Bytes) {z : ℤ} {gs : List Bytes} → some (z, gs) ≡ field constant fs → mag z < 2147483648
+unfolding field fieldOf
+field-fits [] e = absurd (let k : _≡_ {A = ℕ} 0 1 = cc in omega arith)
+field-fits (x ∷ fs) {z} {gs} e = go (constant x) refl (e ∙ field-cons constant x fs)
+  where
+    go : (o : Option ℤ) → o ≡ constant x → some (z, gs) ≡ fieldOf o fs → mag z < 2147483648
+    go none p e = absurd (let k : _≡_ {A = ℕ} 0 1 = cc in omega arith)
+    go (some w) p e =
+        let q : _≡_ {A = ℤ × List Bytes} (z, gs) (w, fs) = cc in
+        let r : z ≡ w = ap (λ (y : ℤ × List Bytes). y .0) q in
+        constant-fits x z (ap some r ∙ p)
+
+-- ---- D lines
+
+-- a row of n cells more
+abbrev pub rowFrom : ℕ → Option (List ℤ) → LineRead
+rowFrom n none = R.NoForm
+rowFrom n (some zs) = R.Row (n + length zs)
+
+pub row-none : (l : Bytes) (at : ℕ) → length l < at → R.NoForm ≡ formRead (rowForm (fieldsFrom l at))
+unfolding rowForm cellFields
+row-none l at h = rw (fields-none l at h)
+
+cellsRead : Option (List ℤ) → Option (List ℤ × List Bytes)
+cellsRead none = none
+cellsRead (some zs) = some (zs, [])
+
+cells-read : (x : Bytes) (fs : List Bytes) → cellFields (x ∷ fs) ≡ cellsRead (readAll cell (x ∷ fs))
+unfolding cellFields cellsRead
+cells-read x fs = go (readAll cell (x ∷ fs))
+  where
+    go : (o : Option (List ℤ))
+        → _≡_ {A = Option (List ℤ × List Bytes)} (elim o [ none ↦ none | some zs ↦ some (zs, []) ]) (cellsRead o)
+    go none = refl
+    go (some zs) = refl
+
+row-all : (x : Bytes) (fs : List Bytes) → formRead (rowForm (x ∷ fs)) ≡ rowFrom 0 (readAll cell (x ∷ fs))
+unfolding rowForm handed end cellsRead
+row-all x fs =
+    ap formRead (then-handed cellFields (λ zs. end (rowLine zs)) (x ∷ fs)
+    ∙ ap (handed (λ zs. end (rowLine zs))) (cells-read x fs))
+    ∙ go (readAll cell (x ∷ fs))
+  where
+    go : (o : Option (List ℤ)) → formRead (handed (λ zs. end (rowLine zs)) (cellsRead o)) ≡ rowFrom 0 o
+    go none = refl
+    go (some zs) = ap R.Row (sym (zero-add (length zs)))
+
+pub row-start : (l : Bytes) (at : ℕ) → at ≤ length l
+    → formRead (rowForm (fieldsFrom l at)) ≡ rowFrom 0 (readAll cell (fieldsFrom l at))
+row-start l at h =
+    let e = field-here l at (at + until tab (drop at l)) refl h in
+    rw (e) (row-all (take (at + until tab (drop at l) - at) (drop at l)) (fieldsFrom l (at + until tab (drop at l) + 1)))
+
+module _ (l : Bytes) (n i to : ℕ) (h : i ≤ length l) (e : to ≡ i + until tab (drop i l)) where
+  pub row-bad : none ≡ cell (take (to - i) (drop i l)) → rowFrom n (readAll cell (fieldsFrom l i)) ≡ R.NoForm
+  unfolding readAll both
+  row-bad p = rw (field-here l i to e h, ← p)
+
+  more : (z : ℤ) (o : Option (List ℤ)) → rowFrom n (both (some z) o) ≡ rowFrom (n + 1) o
+  unfolding both
+  more z none = refl
+  more z (some zs) = ap R.Row (omega arith)
+
+  pub row-more : (z : ℤ) → some z ≡ cell (take (to - i) (drop i l))
+      → rowFrom n (readAll cell (fieldsFrom l i)) ≡ rowFrom (n + 1) (readAll cell (fieldsFrom l (to + 1)))
+  unfolding readAll
+  row-more z p = rw (field-here l i to e h, ← p) (more z (readAll cell (fieldsFrom l (to + 1))))
+
+pub row-end : (l : Bytes) (n i : ℕ) → length l < i → rowFrom n (readAll cell (fieldsFrom l i)) ≡ R.Row n
+unfolding readAll
+row-end l n i h = rw (fields-none l i h, add-zero n)
+
+-- ---- a line by its letter
+
+abbrev forms : List (Form Line)
+forms = formT ∷ formD ∷ formJ ∷ formC ∷ formK ∷ formP ∷ []
+
+-- the fields of a line whose first field is one byte
+pub letter-fields : (l : Bytes) (to b : ℕ) → to ≡ 0 + until tab (drop 0 l) → to ≤ length l → to ≡ 1 → getD l 0 0 ≡ b
+    → split tab l ≡ (b ∷ []) ∷ fieldsFrom l 2
+letter-fields l to b e h o g = fields-all l ∙ field-here l 0 to e (omega arith) ∙ rw o (first l b (rw o at h) g)
+  where
+    first : (l : Bytes) (b : ℕ) → 1 ≤ length l → getD l 0 0 ≡ b → take 1 l ∷ fieldsFrom l 2 ≡ (b ∷ []) ∷ fieldsFrom l 2
+    first [] b h g = absurd (omega arith)
+    first (x ∷ l) b h g = rw g
+
+given-is : (o : Option (Line × List Bytes)) → _≡_ {A = Option Line} (elim o [ none ↦ none | some r ↦ some (r .0) ]) (given o)
+given-is none = refl
+given-is (some r) = refl
+
+module _ (fs : List Bytes) where
+  by-letter-T : firstOf forms ((84 ∷ []) ∷ fs) ≡ given (tableForm fs)
+  unfolding firstOf formT formD formJ formC formK formP tableForm word field oneOf bytes sameBytes
+  by-letter-T = given-is (tableForm fs)
+
+  by-letter-D : firstOf forms ((68 ∷ []) ∷ fs) ≡ given (rowForm fs)
+  unfolding firstOf formT formD formJ formC formK formP rowForm word field oneOf bytes sameBytes
+  by-letter-D = given-is (rowForm fs)
+
+  by-letter-J : firstOf forms ((74 ∷ []) ∷ fs) ≡ given (joinForm fs)
+  unfolding firstOf formT formD formJ formC formK formP joinForm word field oneOf bytes sameBytes
+  by-letter-J = given-is (joinForm fs)
+
+  by-letter-C : firstOf forms ((67 ∷ []) ∷ fs) ≡ given (columnForm fs)
+  unfolding firstOf formT formD formJ formC formK formP columnForm word field oneOf bytes sameBytes
+  by-letter-C = given-is (columnForm fs)
+
+  by-letter-K : firstOf forms ((75 ∷ []) ∷ fs) ≡ given (constantForm fs)
+  unfolding firstOf formT formD formJ formC formK formP constantForm word field oneOf bytes sameBytes
+  by-letter-K = given-is (constantForm fs)
+
+  by-letter-P : firstOf forms ((80 ∷ []) ∷ fs) ≡ given (orderForm fs)
+  unfolding firstOf formT formD formJ formC formK formP orderForm word field oneOf bytes sameBytes
+  by-letter-P = given-is (orderForm fs)
+
+module _ (l : Bytes) (to : ℕ) (e : to ≡ 0 + until tab (drop 0 l)) (h : to ≤ length l) where
+  line-by : (b : ℕ) {o : Option Line} → to ≡ 1 → getD l 0 0 ≡ b → firstOf forms ((b ∷ []) ∷ fieldsFrom l 2) ≡ o → lineRead o ≡ lineRead (lineOf l)
+  unfolding lineOf
+  line-by b u g p = ap lineRead (sym (ap (firstOf forms) (letter-fields l to b e h u g) ∙ p))
+
+  pub line-T : to ≡ 1 → getD l 0 0 ≡ 84 → formRead (tableForm (fieldsFrom l 2)) ≡ lineRead (lineOf l)
+  line-T u g = line-by 84 u g (by-letter-T (fieldsFrom l 2))
+
+  pub line-D : to ≡ 1 → getD l 0 0 ≡ 68 → formRead (rowForm (fieldsFrom l 2)) ≡ lineRead (lineOf l)
+  line-D u g = line-by 68 u g (by-letter-D (fieldsFrom l 2))
+
+  pub line-J : to ≡ 1 → getD l 0 0 ≡ 74 → formRead (joinForm (fieldsFrom l 2)) ≡ lineRead (lineOf l)
+  line-J u g = line-by 74 u g (by-letter-J (fieldsFrom l 2))
+
+  pub line-C : to ≡ 1 → getD l 0 0 ≡ 67 → formRead (columnForm (fieldsFrom l 2)) ≡ lineRead (lineOf l)
+  line-C u g = line-by 67 u g (by-letter-C (fieldsFrom l 2))
+
+  pub line-K : to ≡ 1 → getD l 0 0 ≡ 75 → formRead (constantForm (fieldsFrom l 2)) ≡ lineRead (lineOf l)
+  line-K u g = line-by 75 u g (by-letter-K (fieldsFrom l 2))
+
+  pub line-P : to ≡ 1 → getD l 0 0 ≡ 80 → formRead (orderForm (fieldsFrom l 2)) ≡ lineRead (lineOf l)
+  line-P u g = line-by 80 u g (by-letter-P (fieldsFrom l 2))
+
+-- ---- a line that no letter opens
+
+chosen : Option (Line × List Bytes) → Option Line → Option Line
+chosen none rest = rest
+chosen (some r) rest = some (r .0)
+
+first-chosen : (f : Form Line) (more : List (Form Line)) (fs : List Bytes) → firstOf (f ∷ more) fs ≡ chosen (f fs) (firstOf more fs)
+unfolding firstOf chosen
+first-chosen f more fs = go (f fs)
+  where
+    go : (o : Option (Line × List Bytes))
+        → _≡_ {A = Option Line} (elim o [ none ↦ firstOf more fs | some r ↦ some (r .0) ]) (chosen o (firstOf more fs))
+    go none = refl
+    go (some r) = refl
+
+first-none : (f : Form Line) (more : List (Form Line)) (fs : List Bytes) → none ≡ f fs → none ≡ firstOf more fs
+    → none ≡ firstOf (f ∷ more) fs
+unfolding chosen
+first-none f more fs p q = q ∙ ap (λ (o : Option (Line × List Bytes)). chosen o (firstOf more fs)) p ∙ sym (first-chosen f more fs)
+
+module _ (x : Bytes) (fs : List Bytes) where
+  word-none : (w : String) → sameBytes x (bytes w) ≡ false → none ≡ word w (x ∷ fs)
+  unfolding word oneOf fieldOf
+  word-none w h = sym (field-cons (oneOf ((w, tt) ∷ [])) x fs ∙ rw h)
+
+  form-none : (w : String) (f : Unit → Form Line) → sameBytes x (bytes w) ≡ false → none ≡ (word w >>= f) (x ∷ fs)
+  form-none w f h = then-none (word w) f (x ∷ fs) (word-none w h)
+
+  no-letter : sameBytes x (bytes "T") ≡ false → sameBytes x (bytes "D") ≡ false → sameBytes x (bytes "J") ≡ false
+      → sameBytes x (bytes "C") ≡ false → sameBytes x (bytes "K") ≡ false → sameBytes x (bytes "P") ≡ false
+      → none ≡ firstOf forms (x ∷ fs)
+  unfolding firstOf formT formD formJ formC formK formP tableForm rowForm joinForm columnForm constantForm orderForm
+  no-letter t d j c k p =
+      first-none formT (formD ∷ formJ ∷ formC ∷ formK ∷ formP ∷ []) (x ∷ fs) (form-none "T" (λ u. tableForm) t)
+      (first-none formD (formJ ∷ formC ∷ formK ∷ formP ∷ []) (x ∷ fs) (form-none "D" (λ u. rowForm) d)
+      (first-none formJ (formC ∷ formK ∷ formP ∷ []) (x ∷ fs) (form-none "J" (λ u. joinForm) j)
+      (first-none formC (formK ∷ formP ∷ []) (x ∷ fs) (form-none "C" (λ u. columnForm) c)
+      (first-none formK (formP ∷ []) (x ∷ fs) (form-none "K" (λ u. constantForm) k)
+      (first-none formP [] (x ∷ fs) (form-none "P" (λ u. orderForm) p) refl)))))
+
+module _ (l : Bytes) (to : ℕ) (e : to ≡ 0 + until tab (drop 0 l)) (h : to ≤ length l) where
+  line-fields : split tab l ≡ take to l ∷ fieldsFrom l (to + 1)
+  line-fields =
+      let z : to - 0 ≡ to = omega arith in
+      fields-all l ∙ field-here l 0 to e (omega arith) ∙ rw z
+
+  pub line-long : (to ≡ 1 → ⊥) → R.NoForm ≡ lineRead (lineOf l)
+  unfolding lineOf bytes
+  line-long n =
+      let m : length (take to l) ≡ 1 → ⊥ = λ q. n (sym (length-take-le to l h) ∙ q) in
+      ap lineRead (no-letter (take to l) (fieldsFrom l (to + 1)) (differ-length (take to l) 84 m) (differ-length (take to l) 68 m)
+      (differ-length (take to l) 74 m) (differ-length (take to l) 67 m) (differ-length (take to l) 75 m)
+      (differ-length (take to l) 80 m) ∙ sym (ap (firstOf forms) line-fields))
+
+  pub line-other : to ≡ 1 → (getD l 0 0 ≡ 84 → ⊥) → (getD l 0 0 ≡ 68 → ⊥) → (getD l 0 0 ≡ 74 → ⊥) → (getD l 0 0 ≡ 67 → ⊥)
+      → (getD l 0 0 ≡ 75 → ⊥) → (getD l 0 0 ≡ 80 → ⊥) → R.NoForm ≡ lineRead (lineOf l)
+  unfolding lineOf bytes
+  line-other u t d j c k p =
+      let g : getD (take to l) 0 0 ≡ getD l 0 0 = getD-take to l 0 0 (omega arith) in
+      let at : (w : ℕ) → (getD l 0 0 ≡ w → ⊥) → sameBytes (take to l) (w ∷ []) ≡ false =
+      λ w n. differ-one (take to l) w (λ q. n (sym g ∙ q)) in
+      ap lineRead (no-letter (take to l) (fieldsFrom l (to + 1)) (at 84 t) (at 68 d) (at 74 j) (at 67 c) (at 75 k) (at 80 p)
+      ∙ sym (ap (firstOf forms) line-fields))
