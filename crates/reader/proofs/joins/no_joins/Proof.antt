@@ -1,0 +1,12 @@
+-- `reader::joins::no_joins` meets its contract. Assumes nothing.
+use mathlib.Core.Path.{_≡_, refl, ap, sym, _∙_}
+use Rattle.reader.specs.State.{noJoins, noJoin}
+use Rattle.reader.proofs.joins.no_joins.Statement.{statement}
+use Rattle.reader.proofs.joins.no_joins.Tie as tie
+
+returns : tie.Need-returns
+unfolding noJoins noJoin
+returns c = refl
+
+pub no-joins-spec : {M : Type 1} → statement M
+no-joins-spec = tie.close (tie.spec returns)

@@ -1,0 +1,27 @@
+-- `reader::tables::after_table` meets its contract. Assumes nothing.
+use mathlib.Core.Path.{_≡_, refl, ap, sym, _∙_}
+use Rattle.reader.specs.State.{afterTable}
+use borrow.Author.Needs.{needs}
+use Rattle.reader.proofs.tables.after_table.Statement.{statement}
+use Rattle.reader.proofs.tables.after_table.Tie as tie
+
+table-fits-requires : tie.Need-table-fits-requires
+table-fits-requires c κs = search needs
+
+closed-rows-requires : tie.Need-closed-rows-requires
+closed-rows-requires c κs = search needs
+
+opened-table-requires : tie.Need-opened-table-requires
+opened-table-requires c κs = search needs
+
+add-t9 : tie.Need-add-t9
+add-t9 c = search needs
+
+returns : tie.Need-returns
+unfolding afterTable
+returns c = rw (c .opened-table .ensures, c .before .closed-rows .ensures, c .before .before .before .table-fits .ensures)
+
+pub after-table-spec : {M : Type 1} → statement M
+after-table-spec =
+    tie.close
+    (tie.spec table-fits-requires closed-rows-requires opened-table-requires add-t9 returns)

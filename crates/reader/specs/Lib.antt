@@ -1,0 +1,4 @@
+pub mod State
+pub mod Steps
+pub mod Survey
+pub mod SurveyLaws

@@ -1,0 +1,114 @@
+-- Serves the code's pass over the lines; no demand cites it. What the lines read so far leave in the code's structs, line by line.
+-- Assumes nothing.
+use mathlib.Core.Bool.{Bool, true, false, _&&_}
+use mathlib.Core.List.{List, [], _∷_}
+use Prim.Native.Nat.{ℕ, _+_, _-_}
+use lib.Dec.{eqb, leb}
+use lib.ListN.{set, replicate}
+use Rattle.cells.specs.Choice.{if_then_else_}
+use Rattle.cells.specs.declared.condition.Condition.{Condition}
+use Rattle.cells.specs.declared.condition.Side.the-variants.{Column}
+use Rattle.cells.specs.declared.condition.Layout.{Layout}
+use Rattle.rows.specs.declared.kind.Kind.{Kind}
+use Rattle.rows.specs.declared.kind.Kind.the-variants.{Inner}
+use Rattle.plan.specs.declared.query.StoredJoin.{StoredJoin}
+use Rattle.plan.specs.declared.query.StoredPair.{StoredPair}
+use Rattle.reader.specs.declared.tables.Tables.{Tables}
+use Rattle.reader.specs.declared.joins.Joins.{Joins}
+use Rattle.reader.specs.declared.pairs.Pairs.{Pairs}
+
+-- ---- T and D lines
+
+unfoldable pub noTables : Tables
+noTables = record {
+  count = 0;
+  layout = record { offsets = replicate 8 0; rows = replicate 8 0; columns = replicate 8 0 };
+  columns = 0;
+  rows = 0;
+  cells = 0;
+  fits = true;
+  even = true;
+}
+
+-- question 3 on one table more, with the rows of the one before it
+unfoldable pub tableFits : Bool → ℕ → ℕ → Bool
+tableFits fits rows columns = leb rows 256 && (leb 1 columns && (leb columns 8 && fits))
+
+-- the latest table's rows, put into the layout
+unfoldable pub closedRows : Layout → ℕ → ℕ → Layout
+closedRows l count rows = record { offsets = l .offsets; rows = set (l .rows) (count - 1) rows; columns = l .columns }
+
+-- a table that is opened
+unfoldable pub openedTable : Layout → ℕ → ℕ → ℕ → Layout
+openedTable l count offset columns =
+    record { offsets = set (l .offsets) count offset; rows = l .rows; columns = set (l .columns) count columns }
+
+unfoldable pub afterTable : Tables → ℕ → Tables
+afterTable s n = record {
+  count = s .count + 1;
+  layout = openedTable (closedRows (s .layout) (s .count) (s .rows)) (s .count) (s .cells) n;
+  columns = n;
+  rows = 0;
+  cells = s .cells;
+  fits = tableFits (s .fits) (s .rows) n;
+  even = s .even;
+}
+
+-- cells are counted on until there are more than 4,096
+unfoldable pub cellsAfter : ℕ → ℕ → ℕ
+cellsAfter cells n = if leb n 4096 then (if leb cells 4096 then cells + n else 4097) else 4097
+
+unfoldable pub afterRow : Tables → ℕ → Tables
+afterRow s n = record {
+  count = s .count;
+  layout = s .layout;
+  columns = s .columns;
+  rows = s .rows + 1;
+  cells = cellsAfter (s .cells) n;
+  fits = s .fits;
+  even = s .even && eqb n (s .columns);
+}
+
+-- ---- J, C and K lines
+
+unfoldable pub noJoin : StoredJoin
+noJoin = record { kind = Inner; left = 0; right = 0; first = 0; count = 0 }
+
+unfoldable pub noJoins : Joins
+noJoins = record {
+  count = 0;
+  joins = replicate 7 noJoin;
+  latest = noJoin;
+  «condition_count» = 0;
+  conditions = replicate 32 (record { table = 0; column = 0; operator = 0; side = Column 0 0 });
+}
+
+unfoldable pub afterJoin : Joins → Kind → ℕ → ℕ → Joins
+afterJoin s k a b = record {
+  count = s .count + 1;
+  joins = set (s .joins) (s .count - 1) (s .latest);
+  latest = record { kind = k; left = a; right = b; first = s .«condition_count»; count = 0 };
+  «condition_count» = s .«condition_count»;
+  conditions = s .conditions;
+}
+
+-- a join with a condition more
+unfoldable pub oneMore : StoredJoin → StoredJoin
+oneMore j = record { kind = j .kind; left = j .left; right = j .right; first = j .first; count = j .count + 1 }
+
+unfoldable pub afterCondition : Joins → Condition → Joins
+afterCondition s c = record {
+  count = s .count;
+  joins = s .joins;
+  latest = oneMore (s .latest);
+  «condition_count» = s .«condition_count» + 1;
+  conditions = set (s .conditions) (s .«condition_count») c;
+}
+
+-- ---- P lines
+
+unfoldable pub noPairs : Pairs
+noPairs = record { count = 0; pairs = replicate 7 (record { left = 0; right = 0 }) }
+
+unfoldable pub afterPair : Pairs → ℕ → ℕ → Pairs
+afterPair s a b = record { count = s .count + 1; pairs = set (s .pairs) (s .count) (record { left = a; right = b }) }

@@ -1,0 +1,165 @@
+// What the T and D lines read so far say.
+use cells::condition::Layout;
+use cells::condition::TABLES;
+ghost use mathlib.Core.Path.{_≡_};
+ghost use Prim.Native.Nat.{_+_, _-_, _<_, _≤_};
+ghost use lib.ListN.{set};
+ghost use mathlib.Core.Bool.{_&&_};
+ghost use lib.Dec.{eqb};
+ghost use Rattle.reader.specs.State.{noTables, tableFits, closedRows, openedTable, afterTable, cellsAfter, afterRow};
+
+// The layout has the tables before the latest in full; the latest one's rows are put there when it ends. `fits` is question 3's
+// answer on the tables' columns and on the rows of those before the latest, `even` question 4's on the rows so far.
+pub struct Tables {
+    pub count: u16,
+    pub layout: Layout,
+    pub columns: u16,
+    pub rows: u16,
+    pub cells: usize,
+    pub fits: bool,
+    pub even: bool,
+}
+
+// The most columns and rows of a table.
+const COLUMNS: u16 = 8;
+
+const ROWS: u16 = 256;
+
+// The most cells of a report.
+pub const CELLS: usize = 4096;
+
+// No line yet.
+pub fn no_tables() -> Tables
+    ensures { λ r. ⌜ r ≡ noTables ⌝ }
+{
+    Tables {
+        count: 0,
+        layout: Layout {
+            offsets: [0usize; TABLES],
+            rows: [0u16; TABLES],
+            columns: [0u16; TABLES],
+        },
+        columns: 0,
+        rows: 0,
+        cells: 0,
+        fits: true,
+        even: true,
+    }
+}
+
+// Question 3's answer on one table more, with the rows of the one before it.
+pub fn table_fits(fits: bool, rows: u16, columns: u16) -> bool
+    ensures { λ r. ⌜ r ≡ tableFits fits rows columns ⌝ }
+{
+    if ROWS < rows {
+        return false;
+    }
+    if columns < 1 {
+        return false;
+    }
+    if COLUMNS < columns {
+        return false;
+    }
+    fits
+}
+
+// The last of `count` places; place 0 where there is none.
+pub fn last_of(count: u16) -> usize
+    ensures { λ r. ⌜ r ≡ count - 1 ⌝ }
+{
+    if count == 0 {
+        return 0;
+    }
+    (count - 1) as usize
+}
+
+// The layout with the rows of the latest of `count` tables.
+pub fn closed_rows(layout: Layout, count: u16, rows: u16) -> Layout
+    ensures { λ r. ⌜ r ≡ closedRows layout count rows ⌝ }
+{
+    let t = last_of(count);
+    if TABLES <= t {
+        return layout;
+    }
+    let mut next = layout;
+    next.rows[t] = rows;
+    next
+}
+
+// The layout with a table that is opened.
+pub fn opened_table(layout: Layout, count: u16, offset: usize, columns: u16) -> Layout
+    ensures { λ r. ⌜ r ≡ openedTable layout count offset columns ⌝ }
+{
+    let t = count as usize;
+    if TABLES <= t {
+        return layout;
+    }
+    let mut next = layout;
+    next.offsets[t] = offset;
+    next.columns[t] = columns;
+    next
+}
+
+// A T line more.
+pub fn after_table(s: Tables, columns: u16) -> Tables
+    requires { ⌜ s .count < 65535 ⌝ }
+    ensures { λ r. ⌜ r ≡ afterTable s columns ⌝ }
+{
+    let count = s.count;
+    let rows = s.rows;
+    let fits = table_fits(s.fits, rows, columns);
+    let before = s.layout;
+    let closed = closed_rows(before, count, rows);
+    let layout = opened_table(closed, count, s.cells, columns);
+    Tables {
+        count: count + 1,
+        layout: layout,
+        columns: columns,
+        rows: 0,
+        cells: s.cells,
+        fits: fits,
+        even: s.even,
+    }
+}
+
+// Whether a row of `n` cells, with those before it, is as wide as its table.
+pub fn is_even(even: bool, n: usize, columns: u16) -> bool
+    ensures { λ r. ⌜ r ≡ (even && eqb n columns) ⌝ }
+{
+    if n == (columns as usize) {
+        return even;
+    }
+    false
+}
+
+// `n` cells more, counted on until there are more than a report may have.
+pub fn cells_after(cells: usize, n: usize) -> usize
+    ensures { λ r. ⌜ r ≡ cellsAfter cells n ⌝ }
+{
+    if CELLS < n {
+        return CELLS + 1;
+    }
+    if CELLS < cells {
+        return CELLS + 1;
+    }
+    cells + n
+}
+
+// A D line of `n` cells more.
+pub fn after_row(s: Tables, n: usize) -> Tables
+    requires { ⌜ s .rows < 65535 ⌝ }
+    ensures { λ r. ⌜ r ≡ afterRow s n ⌝ }
+{
+    let even = is_even(s.even, n, s.columns);
+    let cells = cells_after(s.cells, n);
+    let layout = s.layout;
+    Tables {
+        count: s.count,
+        layout: layout,
+        columns: s.columns,
+        rows: s.rows + 1,
+        cells: cells,
+        fits: s.fits,
+        even: even,
+    }
+}
