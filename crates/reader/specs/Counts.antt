@@ -1,0 +1,132 @@
+-- What the lines of a report leave in the code's structs answers questions 3 and 4 and says where each table's cells begin.
+-- Assumes nothing.
+use mathlib.Core.Path.{_≡_, refl, sym, ap, _∙_}
+use mathlib.Core.Bool.{Bool, true, false, _&&_, and-true, and-false}
+use mathlib.Core.List.{List, [], _∷_, map}
+use Prim.Native.Nat.{ℕ, zero, suc, _+_, _-_, _<_, _≤_}
+use native.Mathlib.Nat.{add-zero, zero-add, add-suc, suc-add}
+use native.Mathlib.Numerals.{add-one}
+use native.Mathlib.Omega.{arith}
+use lib.Dec.{eqb, leb}
+use lib.IntN.{ℤ}
+use lib.ListN.{length, set}
+use lib.Seq.{sets}
+use borrow.Author.Tests.{le-leb, lt-leb, leb-true, leb-false}
+use Rattle.cells.specs.Choice.{if_then_else_}
+use Rattle.rows.specs.Lists.{all}
+use Rattle.plan.specs.Report.{Table}
+use Rattle.text.specs.Lines.{Line, tableLine, rowLine, joinLine, conditionLine, orderLine}
+use Rattle.text.specs.Reading.{tablesOf}
+use Rattle.text.specs.Questions.{cellsInRows, cellsInTables, tableFits}
+use Rattle.reader.specs.State.{cellsAfter, afterTable, afterRow, closedRows, openedTable, tableFits as fitsAfter}
+use Rattle.reader.specs.Kept.{tablesAfter}
+use Rattle.reader.specs.declared.tables.Tables.{Tables}
+
+-- ---- 4: the rows' widths
+
+abbrev pub Even : ℕ → List (List ℤ) → Bool
+Even n rows = all (λ (zs : List ℤ). eqb (length zs) n) rows
+
+abbrev pub AllEven : List Table → Bool
+AllEven ts = all (λ (t : Table). all (λ (zs : List ℤ). eqb (length zs) (t .columns)) (t .rows)) ts
+
+regroup : (a b c d : Bool) → ((a && b) && (c && d)) ≡ (a && ((b && c) && d))
+regroup true true c d = refl
+regroup true false c d = refl
+regroup false b c d = refl
+
+pub even-kept : (t : Tables) (ls : List Line)
+    → (tablesAfter t ls) .even ≡ (t .even && (Even (t .columns) ((tablesOf ls) .0) && AllEven ((tablesOf ls) .1)))
+unfolding tablesAfter tablesOf afterTable afterRow all
+even-kept t [] = sym (and-true (t .even))
+even-kept t (tableLine n ∷ ls) = even-kept (afterTable t n) ls
+even-kept t (rowLine zs ∷ ls) =
+    even-kept (afterRow t (length zs)) ls
+    ∙ regroup (t .even) (eqb (length zs) (t .columns)) (Even (t .columns) ((tablesOf ls) .0)) (AllEven ((tablesOf ls) .1))
+even-kept t (joinLine k a b ∷ ls) = even-kept t ls
+even-kept t (conditionLine c ∷ ls) = even-kept t ls
+even-kept t (orderLine a b ∷ ls) = even-kept t ls
+
+-- ---- 3: each table's columns and rows
+
+exchange : (a b c d f g : Bool) → (a && ((b && (c && (d && f))) && g)) ≡ (b && (f && (((c && d) && a) && g)))
+exchange a false c d f g = and-false a
+exchange a true c d false g = rw (and-false d, and-false c, and-false a)
+exchange a true false d true g = and-false a
+exchange a true true false true g = and-false a
+exchange a true true true true g = refl
+
+pub fits-kept : (t : Tables) (ls : List Line)
+    → (leb ((tablesAfter t ls) .rows) 256 && (tablesAfter t ls) .fits)
+    ≡ (leb (t .rows + length ((tablesOf ls) .0)) 256 && (t .fits && all tableFits ((tablesOf ls) .1)))
+unfolding tablesAfter tablesOf afterTable afterRow all tableFits fitsAfter
+fits-kept t [] = rw (add-zero (t .rows), and-true (t .fits))
+fits-kept t (tableLine n ∷ ls) =
+    fits-kept (afterTable t n) ls
+    ∙ rw (zero-add (length ((tablesOf ls) .0)), add-zero (t .rows))
+    (exchange (leb (length ((tablesOf ls) .0)) 256) (leb (t .rows) 256) (leb 1 n) (leb n 8) (t .fits) (all tableFits ((tablesOf ls) .1)))
+fits-kept t (rowLine zs ∷ ls) =
+    let e : t .rows + 1 + length ((tablesOf ls) .0) ≡ t .rows + suc (length ((tablesOf ls) .0)) = omega arith in
+    fits-kept (afterRow t (length zs)) ls ∙ rw e
+fits-kept t (joinLine k a b ∷ ls) = fits-kept t ls
+fits-kept t (conditionLine c ∷ ls) = fits-kept t ls
+fits-kept t (orderLine a b ∷ ls) = fits-kept t ls
+
+-- ---- 3: the cells
+
+-- the cells that lines write
+abbrev pub Written : List Line → ℕ
+Written ls = cellsInRows ((tablesOf ls) .0) + cellsInTables ((tablesOf ls) .1)
+
+pub cells-within : (c n : ℕ) → c + n ≤ 4096 → cellsAfter c n ≡ c + n
+unfolding cellsAfter
+cells-within c n h = rw (le-leb n 4096 (omega arith), le-leb c 4096 (omega arith))
+
+cells-step : (c n m : ℕ) → leb (cellsAfter c n + m) 4096 ≡ leb (c + (n + m)) 4096
+unfolding cellsAfter
+cells-step c n m = go (leb n 4096) refl (leb c 4096) refl
+  where
+    go : (s : Bool) → leb n 4096 ≡ s → (t : Bool) → leb c 4096 ≡ t → leb (cellsAfter c n + m) 4096 ≡ leb (c + (n + m)) 4096
+    go true e true g =
+        let h : c + n + m ≡ c + (n + m) = omega arith in
+        rw (e, g, h)
+    go true e false g =
+        let h : 4096 < c = leb-false c 4096 g in
+        rw (e, g, lt-leb (4097 + m) 4096 (omega arith), lt-leb (c + (n + m)) 4096 (omega arith))
+    go false e t g =
+        let h : 4096 < n = leb-false n 4096 e in
+        rw (e, lt-leb (4097 + m) 4096 (omega arith), lt-leb (c + (n + m)) 4096 (omega arith))
+
+pub cells-kept : (t : Tables) (ls : List Line) → leb ((tablesAfter t ls) .cells) 4096 ≡ leb (t .cells + Written ls) 4096
+unfolding tablesAfter tablesOf afterTable afterRow cellsInRows cellsInTables
+cells-kept t [] = rw (add-zero (t .cells))
+cells-kept t (tableLine n ∷ ls) = cells-kept (afterTable t n) ls ∙ rw (zero-add (Written ls))
+cells-kept t (rowLine zs ∷ ls) =
+    let e : length zs + cellsInRows ((tablesOf ls) .0) + cellsInTables ((tablesOf ls) .1) ≡ length zs + Written ls = omega arith in
+    cells-kept (afterRow t (length zs)) ls ∙ cells-step (t .cells) (length zs) (Written ls) ∙ rw e
+cells-kept t (joinLine k a b ∷ ls) = cells-kept t ls
+cells-kept t (conditionLine c ∷ ls) = cells-kept t ls
+cells-kept t (orderLine a b ∷ ls) = cells-kept t ls
+
+-- ---- where each table's cells begin
+
+-- "a table's cells begin where the previous table's cells end"
+unfoldable pub offsetsFrom : ℕ → List Table → List ℕ
+offsetsFrom o [] = []
+offsetsFrom o (t ∷ ts) = o ∷ offsetsFrom (o + cellsInRows (t .rows)) ts
+
+pub offsets-kept : (t : Tables) (ls : List Line) → t .cells + Written ls ≤ 4096
+    → (tablesAfter t ls) .layout .offsets
+    ≡ sets (t .layout .offsets) (t .count) (offsetsFrom (t .cells + cellsInRows ((tablesOf ls) .0)) ((tablesOf ls) .1))
+unfolding tablesAfter tablesOf afterTable afterRow closedRows openedTable cellsInRows cellsInTables offsetsFrom
+offsets-kept t [] h = refl
+offsets-kept t (tableLine n ∷ ls) h =
+    offsets-kept (afterTable t n) ls (omega arith) ∙ rw (add-one (t .count), add-zero (t .cells))
+offsets-kept t (rowLine zs ∷ ls) h =
+    let w : t .cells + length zs ≤ 4096 = omega arith in
+    let e = cells-within (t .cells) (length zs) w in
+    let g : t .cells + length zs + cellsInRows ((tablesOf ls) .0) ≡ t .cells + (length zs + cellsInRows ((tablesOf ls) .0)) = omega arith in
+    offsets-kept (afterRow t (length zs)) ls (rw e (omega arith)) ∙ rw (e, g)
+offsets-kept t (joinLine k a b ∷ ls) h = offsets-kept t ls h
+offsets-kept t (conditionLine c ∷ ls) h = offsets-kept t ls h
+offsets-kept t (orderLine a b ∷ ls) h = offsets-kept t ls h
