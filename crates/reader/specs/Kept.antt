@@ -126,7 +126,7 @@ stored-joins i (rowLine zs ∷ ls) = stored-joins i ls
 stored-joins i (orderLine a b ∷ ls) = stored-joins i ls
 
 -- a join with n conditions more
-abbrev more : ℕ → StoredJoin → StoredJoin
+abbrev pub more : ℕ → StoredJoin → StoredJoin
 more n j = record { kind = j .kind; left = j .left; right = j .right; first = j .first; count = j .count + n }
 
 pub joins-count : (j : Joins) (ls : List Line) → (joinsAfter j ls) .count ≡ j .count + length ((storedJoins (j .«condition_count») ls) .1)

@@ -5,3 +5,4 @@ pub mod SurveyLaws
 pub mod Agrees
 pub mod Kept
 pub mod Counts
+pub mod Query

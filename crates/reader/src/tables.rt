@@ -23,7 +23,7 @@ pub struct Tables {
 // The most columns and rows of a table.
 const COLUMNS: u16 = 8;
 
-const ROWS: u16 = 256;
+pub const ROWS: u16 = 256;
 
 // The most cells of a report.
 pub const CELLS: usize = 4096;

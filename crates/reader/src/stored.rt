@@ -1,0 +1,56 @@
+// The query that the lines of a text say, and questions 3 and 4.
+use crate::joins;
+use crate::survey::Reading;
+use crate::tables;
+use crate::tables::Tables;
+use plan::query::StoredQuery;
+ghost use mathlib.Core.Path.{_≡_};
+ghost use Rattle.reader.specs.Query.{storedOf, tablesFit};
+
+// The most tables of a report.
+const MOST: u16 = 8;
+
+// The latest table's rows and the latest join are put into their arrays.
+pub fn stored(s: Reading) -> StoredQuery
+    ensures { λ r. ⌜ r ≡ storedOf s ⌝ }
+{
+    let t = s.tables;
+    let j = s.joins;
+    let p = s.pairs;
+    let open = t.layout;
+    let layout = tables::closed_rows(open, t.count, t.rows);
+    let before = j.joins;
+    let latest = j.latest;
+    let joins = joins::closed_joins(before, j.count, latest);
+    let conditions = j.conditions;
+    let pairs = p.pairs;
+    StoredQuery {
+        table_count: t.count,
+        layout: layout,
+        join_count: j.count,
+        joins: joins,
+        condition_count: j.condition_count,
+        conditions: conditions,
+        pair_count: p.count,
+        pairs: pairs,
+    }
+}
+
+// Question 3.
+pub fn tables_fit(t: Tables) -> bool
+    ensures { λ r. ⌜ r ≡ tablesFit t ⌝ }
+{
+    if t.count < 1 {
+        return false;
+    }
+    if MOST < t.count {
+        return false;
+    }
+    if tables::ROWS < t.rows {
+        return false;
+    }
+    if tables::CELLS < t.cells {
+        return false;
+    }
+    t.fits
+}
