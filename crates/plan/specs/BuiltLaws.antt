@@ -20,7 +20,7 @@ use Rattle.plan.specs.Nodes.{grown, tablesAt, tablesOfPair, nodesOf, tre
 use Rattle.plan.specs.Sets.{setOf, setsBy, emptySets}
 use Rattle.plan.specs.Questions.{lowerSides, sidesOf, noneTwice, wellBuilt}
 use Rattle.plan.specs.NodeLaws.{Matched, noPair, nextPair, Alike, alike-grown, grown-old, grown-length}
-use Rattle.plan.specs.StageLaws.{Stages, stages, usedBy, OpenApart, OpenHas, every-node, last-has, sides-lower}
+use Rattle.plan.specs.StageLaws.{Stages, stages, usedBy, OpenApart, OpenHas, every-node, every-node-at, from-last, last-has, sides-lower}
 use Rattle.plan.specs.SetLaws.{getD-range, Numbered, Exact, exact-end}
 
 pub length-range : (s n : ℕ) → length (range s n) ≡ n
@@ -108,6 +108,21 @@ module _ (q : Query) {G : Join → Type 0} {ps : List Pair} {js : List Join} (ma
   pub of-last : (P : Tree ℕ → Type 0) → ((i : ℕ) → i < length (treesOf q js) → P (treeAt (treesOf q js) i)) → P (lastTree (treesOf q js))
   unfolding lastTree
   of-last P h = h (length (treesOf q js) - 1) last-lower
+
+  -- P of the whole tree gives P of every node, where P of a join gives P of its sides
+  pub from-whole : (P : Tree ℕ → Type 0)
+      → ((j : Join) → P (treeOf (treesOf q js) j) → P (treeAt (treesOf q js) (j .left)) × P (treeAt (treesOf q js) (j .right)))
+      → P (lastTree (treesOf q js)) → (i : ℕ) → i < length (treesOf q js) → P (treeAt (treesOf q js) i)
+  unfolding lastTree treesOf tableNumbers
+  from-whole P sides = from-last P sides n staged one-fewer
+
+  -- P of every node, where it holds of each table, and P of a join's node follows from P of its sides
+  pub each-node-at : (P : Tree ℕ → Type 0) → ((i : ℕ) → i < tableCount q → P (leaf i))
+      → ((m : ℕ) → m < length (treesOf q js) → (j : Join) → treeAt (treesOf q js) m ≡ treeOf (treesOf q js) j
+      → P (treeAt (treesOf q js) (j .left)) → P (treeAt (treesOf q js) (j .right)) → P (treeAt (treesOf q js) m))
+      → (i : ℕ) → i < length (treesOf q js) → P (treeAt (treesOf q js) i)
+  unfolding treesOf tableNumbers
+  each-node-at P base make = every-node-at P make staged (λ i h. subst P (sym (leaf-at i h)) (base i h))
 
   -- the whole tree has every table
   pub last-has-every : (t : ℕ) → t < tableCount q → HasTable (lastTree (treesOf q js)) t

@@ -214,6 +214,10 @@ module _ (trees : List (Tree ℕ)) {m : ℕ} {used : List ℕ} (j : Join) (hl : 
           other a c (there (here q)) = c q
           other a c (there (there k)) = n k
 
+-- a node has one above it, of those below M, from which P comes down to it
+abbrev pub Above : List (Tree ℕ) → ℕ → (Tree ℕ → Type 0) → ℕ → Type 0
+Above trees M P u = (p : ℕ) × (u < p) × (p < M) × (P (treeAt trees p) → P (treeAt trees u))
+
 module _ {G : Join → Type 0} {trees : List (Tree ℕ)} {M : ℕ} {U : List ℕ} where
   -- how many nodes and sides there are at the end
   pub stages-count : {m : ℕ} {used : List ℕ} {js : List Join} → Stages G trees M U m used js
@@ -265,3 +269,45 @@ module _ {G : Join → Type 0} {trees : List (Tree ℕ)} {M : ℕ} {U : List ℕ
       (λ e. absurd (o (all-below (M - 1) U (sides-differ s eachNil)
       (λ u k. let d = sides-lower s (λ v z. elim z [ ]) u k in omega arith) (omega arith) i (omega arith)))) in
       subst (λ (k : ℕ). HasTable (treeAt trees k) t) q x
+
+  side-above : (P : Tree ℕ → Type 0) → ((j : Join) → P (treeOf trees j) → P (treeAt trees (j .left)) × P (treeAt trees (j .right)))
+      → {m : ℕ} {used : List ℕ} {js : List Join} → Stages G trees M U m used js → (u : ℕ) → u isIn U → u isIn used ⊎ Above trees M P u
+  side-above P sides allMade u k = inl k
+  side-above P sides (makes {m} {used} {j} hl hr ul ur lr e g s) u k = cases (side-above P sides s u k)
+    where
+      below : m < M
+      below = omega (arith, stages-count s)
+
+      cases : u isIn (j .left ∷ j .right ∷ used) ⊎ Above trees M P u → u isIn used ⊎ Above trees M P u
+      cases (inl (here q)) = inr (m, omega arith, below, λ h. subst (λ (i : ℕ). P (treeAt trees i)) (sym q) (sides j (subst P e h) .0))
+      cases (inl (there (here q))) = inr (m, omega arith, below, λ h. subst (λ (i : ℕ). P (treeAt trees i)) (sym q) (sides j (subst P e h) .1))
+      cases (inl (there (there n))) = inl n
+      cases (inr x) = inr x
+
+  -- P of the last node gives P of every node, with one join fewer than tables
+  pub from-last : (P : Tree ℕ → Type 0) → ((j : Join) → P (treeOf trees j) → P (treeAt trees (j .left)) × P (treeAt trees (j .right)))
+      → (n : ℕ) {js : List Join} → Stages G trees M U n [] js → suc (length js) ≡ n → P (treeAt trees (M - 1)) → (i : ℕ) → i < M → P (treeAt trees i)
+  from-last P sides n {js} s c last i b = down M i (omega arith) b
+    where
+      above : (i : ℕ) → suc i < M → Above trees M P i
+      above i h =
+          let (em, eu) = stages-count s in
+          ⊎-elim (λ k. elim k [ ]) (λ x. x) (side-above P sides s i (all-below (M - 1) U (sides-differ s eachNil)
+            (λ u k. let d = sides-lower s (λ v z. elim z [ ]) u k in omega arith) (omega arith) i (omega arith)))
+
+      down : (fuel i : ℕ) → M ≤ i + fuel → i < M → P (treeAt trees i)
+      down zero i h b = absurd (omega arith)
+      down (suc fuel) i h b = by-cases (ℕ-discrete (suc i) M)
+          (λ q. subst (λ (k : ℕ). P (treeAt trees k)) (omega arith) last)
+          (λ q. let (p, up, pM, get) = above i (omega arith) in get (down fuel p (omega arith) pM))
+
+  -- P of every node, where P of each new node follows from P of those before it
+  pub every-node-at : (P : Tree ℕ → Type 0) → ((m : ℕ) → m < M → (j : Join) → treeAt trees m ≡ treeOf trees j → P (treeAt trees (j .left))
+      → P (treeAt trees (j .right)) → P (treeAt trees m))
+      → {m : ℕ} {used : List ℕ} {js : List Join} → Stages G trees M U m used js
+      → ((i : ℕ) → i < m → P (treeAt trees i)) → (i : ℕ) → i < M → P (treeAt trees i)
+  every-node-at P make allMade h = h
+  every-node-at P make (makes {m} {j} hl hr ul ur lr e g s) h = every-node-at P make s
+      (λ i b. by-cases (ℕ-discrete i m)
+      (λ q. subst (λ (k : ℕ). P (treeAt trees k)) (sym q) (make m (omega (arith, stages-count s)) j e (h (j .left) hl) (h (j .right) hr)))
+      (λ q. h i (omega arith)))
