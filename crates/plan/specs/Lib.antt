@@ -19,6 +19,8 @@ pub mod TreeWords
 pub mod TreeWordLaws
 pub mod PairWords
 pub mod PairWordLaws
+pub mod StepWords
+pub mod StepLaws
 pub mod NodeLaws
 pub mod StageLaws
 pub mod SetLaws

@@ -8,7 +8,7 @@ use native.Mathlib.Omega.{arith}
 use lib.Bits.{bitAnd, bitOr}
 use lib.Dec.{T, eqb, ltb}
 use lib.IntN.{ℤ}
-use lib.ListN.{length, getD}
+use lib.ListN.{length, getD, length-map, List·getD-map}
 use mir.Facts.{and-yes, yes-and, or-yes, eqb-yes, yes-eqb}
 use borrow.Author.Tests.{ne-eqb}
 use Rattle.cells.specs.Below.{at-below}
@@ -23,7 +23,7 @@ use Rattle.rows.specs.declared.kind.Kind.the-variants.{Inner, Outer, Product}
 use Rattle.plan.specs.Report.{Join, Pair, Query, tableCount, conditionNumbers, conditionAt, namedBy, joinOrder}
 use Rattle.plan.specs.Nodes.{tablesAt, orderNodes}
 use Rattle.plan.specs.Sets.{Sets, setOf, emptySets, blankingSets}
-use Rattle.plan.specs.Plan.{between, crosses, inEvery, usable, paired, fitsKind, usableAt, allIn, planned}
+use Rattle.plan.specs.Plan.{between, crosses, inEvery, usable, paired, fitsKind, usableAt, allIn, planned, plannedJoins}
 use Rattle.plan.specs.Bits.{hasBit}
 use Rattle.plan.specs.Steps.{bitsOf}
 use Rattle.plan.specs.BitLaws.{same-test, same-bits, has-bits, bit-elim, bit-intro, word-is, same-word, bits-none, some-bits}
@@ -32,7 +32,7 @@ use Rattle.plan.specs.WordLaws.{or-elim, or-intro, and-elim, and-intro, 
 use Rattle.plan.specs.JoinLaws.{condition-elim, condition-intro, named-within}
 use Rattle.plan.specs.SetWords.{set-word, node-word, number-elim}
 use Rattle.plan.specs.FoldWords.{nodes-below, nodes-most, blanking-proper}
-use Rattle.plan.specs.PairWords.{commonBits, betweenBits, crossesBits, crossingBits, withinBits, usableWord, usableBits, usableIn, fitsBits, pairFits, pairedBits}
+use Rattle.plan.specs.PairWords.{commonBits, betweenBits, crossesBits, crossingBits, withinBits, usableWord, usableBits, usableIn, fitsBits, pairFits, pairedBits, plannedBits}
 use Rattle.plan.specs.declared.join.BitJoin.{BitJoin}
 use Rattle.plan.specs.declared.pairs.Usable.{Usable}
 
@@ -134,7 +134,7 @@ usable-numbered : (q : Query) (S : Sets) (s l : List ℕ) (k : ℕ) → k isIn u
 unfolding usable
 usable-numbered q S s l k m = keep-elim (λ (k : ℕ). crosses (conditionAt q k) s l && (inEvery S s k || inEvery S l k)) (conditionNumbers q) m .0
 
-usable-in-numbers : (q : Query) (p : Pair) (k : ℕ) → k isIn usableAt q p → k isIn conditionNumbers q
+pub usable-in-numbers : (q : Query) (p : Pair) (k : ℕ) → k isIn usableAt q p → k isIn conditionNumbers q
 unfolding usableAt
 usable-in-numbers q p k m = usable-numbered q (blankingSets q) (tablesAt (orderNodes q) (p .0)) (tablesAt (orderNodes q) (p .1)) k m
 
@@ -169,7 +169,7 @@ module _ (q : Query) (small : tableCount q ≤ 8) (numbers : length (q .conditio
 
 module _ (q : Query) where
   -- conditions that there are
-  condition-is : (C : List ℕ) → ((k : ℕ) → k isIn C → k isIn conditionNumbers q) → conditionBits q C ≡ bitsOf C
+  pub condition-is : (C : List ℕ) → ((k : ℕ) → k isIn C → k isIn conditionNumbers q) → conditionBits q C ≡ bitsOf C
   condition-is C n = word-is (conditionBits q C) C (λ k. (λ h. condition-elim q C k h .0, λ m. condition-intro q C k m (number-elim q k (n k m))))
 
   names-is : (C : List ℕ) → ((k : ℕ) → k isIn C → k isIn conditionNumbers q) → namedBits q (bitsOf C) ≡ bitsOf (wordTables (namedBy q C))
@@ -204,3 +204,17 @@ module _ (q : Query) where
   pub fits-word : (p : Pair) → fitsBits (usableIn q p) ≡ pairFits q p
   unfolding usableIn pairFits
   fits-word p = fits-kind (usableAt q p) (allIn q p (p .0)) (allIn q p (p .1))
+
+-- the same, of the sets and the nodes that the code holds
+pub planned-in : (q : Query) → tableCount q ≤ 8 → length (q .conditions) ≤ 32 → length (joinOrder q) ≤ 7 → (sets nodes : List ℕ) (p : Pair)
+    → sets ≡ setWords (blankingSets q) → nodes ≡ nodeWords (orderNodes q) → plannedBits q sets nodes p ≡ joinBits q (planned q p)
+unfolding plannedBits
+planned-in q small numbers few sets nodes p e f = ap (pairedBits q p) (usable-in q small numbers few sets nodes p e f) ∙ planned-word q p
+
+pub planned-at : (q : Query) (i : ℕ) (p : Pair) → getD (joinOrder q) i p ≡ p → getD (plannedJoins q) i (planned q p) ≡ planned q p
+unfolding plannedJoins
+planned-at q i p e = List·getD-map (planned q) (joinOrder q) i p ∙ ap (planned q) e
+
+pub planned-count : (q : Query) → length (plannedJoins q) ≡ length (joinOrder q)
+unfolding plannedJoins
+planned-count q = length-map (joinOrder q) (planned q)

@@ -8,3 +8,4 @@ pub mod query;
 pub mod sets;
 pub mod simplified;
 pub mod step;
+pub mod steps;

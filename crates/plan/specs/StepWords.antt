@@ -1,0 +1,47 @@
+-- Shapes that serve the contracts of this crate's functions alone; no demand cites them, but for the list of a plan's steps as
+-- the code holds it. Assumes nothing.
+use mathlib.Core.List.{List, [], _∷_, _++_, map}
+use Prim.Native.Nat.{ℕ, zero, suc, _+_, _-_, _%_}
+use lib.Bits.{bitAnd, bitXor}
+use lib.Dec.{eqb}
+use lib.ListN.{length, getD, set, replicate}
+use Rattle.cells.specs.Choice.{if_then_else_}
+use Rattle.plan.specs.Report.{Pair, Query, joinOrder}
+use Rattle.plan.specs.Plan.{planned}
+use Rattle.plan.specs.Steps.{kindNumber, pairStep, zeroStep}
+use Rattle.plan.specs.declared.join.BitJoin.{BitJoin}
+use Rattle.plan.specs.declared.step.Step.{Step}
+use Rattle.plan.specs.declared.steps.StepList.{StepList}
+
+-- these steps, at most sixteen, and then zero steps
+unfoldable pub listed : List Step → StepList
+listed l = record { steps = l ++ replicate (16 - length l) zeroStep; count = length l }
+
+-- a pair's step
+unfoldable pub stepBits : BitJoin → Step
+stepBits j = record { kind = kindNumber (j .kind); first = j .left % 256; second = j .right % 256; rows = 0; conditions = j .conditions }
+
+-- one step more
+unfoldable pub pushed : StepList → Step → StepList
+pushed s x = record { steps = set (s .steps) (s .count) x; count = s .count + 1 }
+
+-- the steps of the pairs
+unfoldable pub pairSteps : Query → List Step
+pairSteps q = map (λ p. pairStep (planned q p) 0) (joinOrder q)
+
+-- the conditions of a set that were not applied
+unfoldable pub missingBits : ℕ → ℕ → ℕ
+missingBits s a = bitXor s (bitAnd s a)
+
+-- with a table's blanking step, where conditions are missing for it
+unfoldable pub withBlanking : StepList → ℕ → ℕ → StepList
+withBlanking s t c = if eqb c 0 then s else pushed s (record { kind = 4; first = t; second = 0; rows = 0; conditions = c })
+
+-- with the blanking steps of the first n tables
+unfoldable pub blankingWords : StepList → List ℕ → List ℕ → ℕ → StepList
+blankingWords s sets applied zero = s
+blankingWords s sets applied (suc n) = withBlanking (blankingWords s sets applied n) n (missingBits (getD sets n 0) (getD applied n 0))
+
+-- with best match, where there are more steps than those of the pairs
+unfoldable pub withBest : StepList → ℕ → StepList
+withBest s n = if eqb (s .count) n then s else pushed s (record { kind = 5; first = 0; second = 0; rows = 0; conditions = 0 })
