@@ -1,15 +1,16 @@
 -- Laws of lists that are looked at one element after the other: what is left of an array's first elements, of a range, and of
 -- a test of every or of some element; counts against their room. Assumes nothing.
-use mathlib.Core.Path.{_≡_, refl, sym, ap, ap₂, _∙_}
+use mathlib.Core.Path.{_≡_, refl, sym, ap, ap₂, _∙_, subst}
 use mathlib.Core.Bool.{Bool, true, false, _&&_, _||_}
 use mathlib.Core.List.{List, [], _∷_, map}
 use Prim.Native.Nat.{ℕ, suc, _+_, _-_, _<_, _≤_}
 use native.Mathlib.Numerals.{add-one}
 use native.Mathlib.Omega.{arith}
-use lib.Dec.{leb}
+use lib.Dec.{T, leb}
 use lib.ListN.{length, getD, take, drop, length-map, length-drop}
 use lib.Seq.{drop-cons, length-take-le}
 use borrow.Author.Tests.{le-leb, lt-leb}
+use mir.Facts.{and-yes, leb-yes}
 use Rattle.rows.specs.Lists.{range, all, any}
 use Rattle.plan.specs.NodeWords.{kept-at}
 
@@ -21,6 +22,10 @@ too-many n most b h = rw (lt-leb n most h)
 
 pub enough-room : (n most : ℕ) (b : Bool) → n ≤ most → (leb n most && b) ≡ b
 enough-room n most b h = rw (le-leb n most h)
+
+-- a yes says that there is room
+pub room-of : (n most : ℕ) (b : Bool) → (leb n most && b) ≡ true → n ≤ most
+room-of n most b e = leb-yes (and-yes (leb n most) b (subst T (sym e) tt) .0)
 
 module _ {A : Type 0} where
   -- tests that agree on every element

@@ -5,3 +5,4 @@ pub mod BuiltWordLaws
 pub mod BuiltQuestions
 pub mod ConditionWords
 pub mod ConditionWordLaws
+pub mod Whole
