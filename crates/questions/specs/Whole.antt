@@ -1,5 +1,6 @@
--- The query that is kept answers for the whole one: where a text has more lines than there is room for, the question about them is
--- answered no, and else nothing was left out. Assumes nothing.
+-- Shapes that serve the contracts of the code alone; no demand cites them. The query that is kept answers for the whole one: where
+-- a text has more lines than there is room for, the question about them is answered no, and else nothing was left out.
+-- Assumes nothing.
 use mathlib.Core.Path.{_≡_, refl, sym, ap, ap₂, _∙_}
 use mathlib.Core.Logic.{by-cases}
 use mathlib.Core.Bool.{Bool, false, _&&_}
