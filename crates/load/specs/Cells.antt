@@ -1,0 +1,163 @@
+-- Serves the code's pass over the cells; no demand cites it. The cells of a text's D lines, line after line. Assumes nothing.
+use mathlib.Core.Path.{_≡_, refl, sym, ap, _∙_}
+use mathlib.Core.Bool.{Bool, true, false}
+use mathlib.Core.List.{List, [], _∷_, _++_}
+use mathlib.Core.Option.{Option, none, some}
+use Prim.Native.Nat.{ℕ, zero, suc, _+_, _-_, _<_, _≤_}
+use native.Mathlib.Nat.{add-zero, suc-add}
+use native.Mathlib.Numerals.{add-one}
+use native.Mathlib.Omega.{arith}
+use lib.Dec.{eqb, leb}
+use lib.IntN.{ℤ}
+use lib.ListN.{length, take, drop, getD, set, length-append}
+use lib.Seq.{sets, set-out, drop-drop}
+use borrow.Author.Tests.{eq-eqb, ne-eqb, le-leb, lt-leb, leb-true, leb-false}
+use Rattle.cells.specs.Choice.{if_then_else_}
+use Rattle.text.specs.Bytes.{Bytes, tab, lineFeed, split}
+use Rattle.text.specs.Numbers.{cell}
+use Rattle.text.specs.Parts.{until, partsAfter, fieldsFrom, field-here, fields-none, split-until, parts-more, parts-none}
+
+-- a cell in front of cells
+unfoldable pub inFront : Option ℤ → List ℤ → List ℤ
+inFront none zs = []
+inFront (some z) zs = z ∷ zs
+
+-- the cells that fields write, up to one that is no cell
+unfoldable pub goodCells : List Bytes → List ℤ
+goodCells [] = []
+goodCells (x ∷ fs) = inFront (cell x) (goodCells fs)
+
+-- the cells that a line writes: 68 is the letter D
+unfoldable pub lineCells : Bytes → List ℤ
+lineCells l = if eqb (getD l 0 0) 68 then goodCells (fieldsFrom l 2) else []
+
+-- the cells that lines write
+unfoldable pub linesCells : List Bytes → List ℤ
+linesCells [] = []
+linesCells (l ∷ ls) = lineCells l ++ linesCells ls
+
+unfoldable pub textCells : Bytes → List ℤ
+textCells bs = linesCells (split lineFeed bs)
+
+-- the lines from a place on
+unfoldable pub lineParts : Bytes → ℕ → List Bytes
+lineParts bs at = if leb at (length bs) then split lineFeed (drop at bs) else []
+
+-- cells laid into the run from a place on, and the place behind them
+unfoldable pub laid : List ℤ → ℕ → List ℤ → List ℤ
+laid run o zs = sets run o zs
+
+unfoldable pub behind : ℕ → List ℤ → ℕ
+behind o zs = o + length zs
+
+sets-append : (run : List ℤ) (o : ℕ) (xs ys : List ℤ) → sets run o (xs ++ ys) ≡ sets (sets run o xs) (o + length xs) ys
+sets-append run o [] ys = rw (add-zero o)
+sets-append run o (x ∷ xs) ys =
+    let e : suc o + length xs ≡ o + suc (length xs) = omega arith in
+    sets-append (set run o x) (suc o) xs ys ∙ rw e
+
+-- ---- cells
+
+module _ (l : Bytes) (i : ℕ) where
+  pub good-past : length l < i → goodCells (fieldsFrom l i) ≡ []
+  unfolding goodCells
+  good-past h = rw (fields-none l i h)
+
+  module _ (to : ℕ) (h : i ≤ length l) (e : to ≡ i + until tab (drop i l)) where
+    pub good-more : {z : ℤ} → some z ≡ cell (take (to - i) (drop i l)) → goodCells (fieldsFrom l i) ≡ z ∷ goodCells (fieldsFrom l (to + 1))
+    unfolding goodCells inFront
+    good-more p = rw (field-here l i to e h, ← p)
+
+    pub good-bad : none ≡ cell (take (to - i) (drop i l)) → goodCells (fieldsFrom l i) ≡ []
+    unfolding goodCells inFront
+    good-bad p = rw (field-here l i to e h, ← p)
+
+-- ---- lines
+
+pub line-empty : (l : Bytes) → length l ≡ 0 → lineCells l ≡ []
+unfolding lineCells
+line-empty [] h = refl
+line-empty (b ∷ l) h = absurd (omega arith)
+
+pub line-other : (l : Bytes) → (getD l 0 0 ≡ 68 → ⊥) → lineCells l ≡ []
+unfolding lineCells
+line-other l h = rw (ne-eqb (getD l 0 0) 68 h)
+
+pub line-row : (l : Bytes) → getD l 0 0 ≡ 68 → lineCells l ≡ goodCells (fieldsFrom l 2)
+unfolding lineCells
+line-row l h = rw (eq-eqb (getD l 0 0) 68 h)
+
+-- ---- the text
+
+module _ (bs : Bytes) (at to : ℕ) (e : to ≡ at + until lineFeed (drop at bs)) where
+  shown : split lineFeed (drop at bs) ≡ take (to - at) (drop at bs) ∷ partsAfter lineFeed (drop to bs)
+  shown =
+      let d : to - at ≡ until lineFeed (drop at bs) = omega arith in
+      split-until lineFeed (drop at bs) ∙ rw (d, drop-drop (until lineFeed (drop at bs)) at bs, e)
+
+  pub line-here : at ≤ length bs → lineParts bs at ≡ take (to - at) (drop at bs) ∷ lineParts bs (to + 1)
+  unfolding lineParts
+  line-here h = rw (le-leb at (length bs) h) (shown ∙ go (leb (to + 1) (length bs)) refl)
+    where
+      go : (t : Bool) → leb (to + 1) (length bs) ≡ t
+          → take (to - at) (drop at bs) ∷ partsAfter lineFeed (drop to bs)
+          ≡ take (to - at) (drop at bs) ∷ (if leb (to + 1) (length bs) then split lineFeed (drop (to + 1) bs) else [])
+      go true t =
+          let h : to < length bs = omega (arith, leb-true (to + 1) (length bs) t) in
+          rw (t, parts-more lineFeed bs to h)
+      go false t =
+          let h : length bs ≤ to = omega (arith, leb-false (to + 1) (length bs) t) in
+          rw (t, parts-none lineFeed bs to h)
+
+  pub cells-here : at ≤ length bs
+      → linesCells (lineParts bs at) ≡ lineCells (take (to - at) (drop at bs)) ++ linesCells (lineParts bs (to + 1))
+  unfolding linesCells
+  cells-here h = rw (line-here h)
+
+pub cells-past : (bs : Bytes) (at : ℕ) → length bs < at → linesCells (lineParts bs at) ≡ []
+unfolding linesCells lineParts
+cells-past bs at h = rw (lt-leb at (length bs) h)
+
+pub cells-all : (bs : Bytes) → textCells bs ≡ linesCells (lineParts bs 0)
+unfolding textCells lineParts
+cells-all bs = rw (le-leb 0 (length bs) (omega arith))
+
+-- ---- the run, turn by turn
+
+module _ (zs₀ : List ℤ) (run₀ run : List ℤ) (out o : ℕ) (ws : List ℤ) where
+  pub laid-stop : ws ≡ [] → laid run₀ out zs₀ ≡ laid run o ws → run ≡ laid run₀ out zs₀
+  unfolding laid
+  laid-stop e s = sym (s ∙ rw e)
+
+  pub laid-turn : (z : ℤ) (us : List ℤ) → ws ≡ z ∷ us → laid run₀ out zs₀ ≡ laid run o ws
+      → laid run₀ out zs₀ ≡ laid (set run o z) (o + 1) us
+  unfolding laid
+  laid-turn z us e s = s ∙ rw (e, add-one o)
+
+  pub laid-run : (xs us : List ℤ) → ws ≡ xs ++ us → laid run₀ out zs₀ ≡ laid run o ws
+      → laid run₀ out zs₀ ≡ laid (laid run o xs) (behind o xs) us
+  unfolding laid behind
+  laid-run xs us e s = s ∙ rw e (sets-append run o xs us)
+
+module _ (zs₀ : List ℤ) (out o : ℕ) (ws : List ℤ) where
+  pub behind-stop : ws ≡ [] → behind out zs₀ ≡ behind o ws → o ≡ behind out zs₀
+  unfolding behind
+  behind-stop e s = sym (s ∙ rw e (add-zero o))
+
+  pub behind-turn : (z : ℤ) (us : List ℤ) → ws ≡ z ∷ us → behind out zs₀ ≡ behind o ws → behind out zs₀ ≡ behind (o + 1) us
+  unfolding behind
+  behind-turn z us e s = let k : o + suc (length us) ≡ o + 1 + length us = omega arith in s ∙ rw (e, k)
+
+-- nothing more
+pub laid-none : (run : List ℤ) (out : ℕ) (zs : List ℤ) → zs ≡ [] → run ≡ laid run out zs
+unfolding laid
+laid-none run out zs e = rw e
+
+pub behind-none : (out : ℕ) (zs : List ℤ) → zs ≡ [] → out ≡ behind out zs
+unfolding behind
+behind-none out zs e = rw e (sym (add-zero out))
+
+pub part-short : (n : ℕ) (l : Bytes) → length (take n l) ≤ n
+part-short zero l = omega arith
+part-short (suc n) [] = omega arith
+part-short (suc n) (b ∷ l) = let h = part-short n l in omega arith

@@ -1,0 +1,72 @@
+// The cells of the D lines, one after the other, in a lent run of cells; what has no place in the run is not kept.
+use cells::cell::Made;
+use text::number;
+use text::part;
+ghost use mathlib.Core.Path.{_≡_};
+ghost use Prim.Native.Nat.{_+_, _≤_};
+ghost use lib.ListN.{length, set};
+ghost use Rattle.text.specs.Parts.{fieldsFrom};
+ghost use Rattle.load.specs.Cells.{goodCells, lineCells, textCells, laid, behind};
+
+// The letter of a D line.
+const ROW: u8 = 68;
+
+// One cell at a place of the run.
+pub fn put(run: &mut [i32], i: usize, z: i32)
+    ensures { λ _. ⌜ now (run .exit) ≡ set (now (run .entry)) i z ⌝ }
+{
+    if run.len() <= i {
+        return;
+    }
+    run[i] = z;
+}
+
+// The cells of a line's fields from `at` on, from place `out` of the run on; the place behind them.
+pub fn put_row(l: &[u8], at: usize, run: &mut [i32], out: usize) -> usize
+    requires { ⌜ (at ≤ length (now l) + 1) × (out + length (now l) ≤ 4294967296) ⌝ }
+    ensures { λ r. ⌜ (now (run .exit) ≡ laid (now (run .entry)) out (goodCells (fieldsFrom (now (l .entry)) at))) × (r ≡ behind out (goodCells (fieldsFrom (now (l .entry)) at)))
+        × (r ≤ out + length (now (l .entry)) + 1) ⌝ }
+{
+    let mut o = out;
+    let mut i = at;
+    while i <= l.len() {
+        let to = part::part_end(l, i, part::TAB);
+        let m = number::cell_number(&l[i..to]);
+        let Made::Value(z) = m else {
+            return o;
+        };
+        put(run, o, z);
+        o += 1;
+        i = to + 1;
+    }
+    o
+}
+
+// The cells of a line, if it is a D line.
+pub fn put_line(l: &[u8], run: &mut [i32], out: usize) -> usize
+    requires { ⌜ out + length (now l) ≤ 4294967296 ⌝ }
+    ensures { λ r. ⌜ (now (run .exit) ≡ laid (now (run .entry)) out (lineCells (now (l .entry)))) × (r ≡ behind out (lineCells (now (l .entry))))
+        × (r ≤ out + length (now (l .entry)) + 1) ⌝ }
+{
+    if l.len() == 0 {
+        return out;
+    }
+    if l[0] != ROW {
+        return out;
+    }
+    put_row(l, 2, run, out)
+}
+
+// The cells of a text.
+pub fn put_cells(text: &[u8], run: &mut [i32])
+    requires { ⌜ length (now text) ≤ 16384 ⌝ }
+    ensures { λ _. ⌜ now (run .exit) ≡ laid (now (run .entry)) 0 (textCells (now (text .entry))) ⌝ }
+{
+    let mut out = 0;
+    let mut at = 0;
+    while at <= text.len() {
+        let to = part::part_end(text, at, part::LINE_FEED);
+        out = put_line(&text[at..to], run, out);
+        at = to + 1;
+    }
+}
