@@ -6,3 +6,4 @@ pub mod Agrees
 pub mod Kept
 pub mod Counts
 pub mod Query
+pub mod Outcome

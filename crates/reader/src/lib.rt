@@ -1,6 +1,7 @@
 // Reading a report text: questions 2 to 7 and 9, the query, and the cells.
 pub mod joins;
 pub mod pairs;
+pub mod read;
 pub mod stored;
 pub mod survey;
 pub mod tables;

@@ -1,0 +1,161 @@
+-- What the reading of a text answers: document 01, "Questions, in order", 2 to 4. Assumes nothing.
+use mathlib.Core.Path.{_≡_, refl, sym, ap, _∙_, subst}
+use mathlib.Core.Bool.{Bool, true, false, not}
+use mathlib.Core.List.{List, [], _∷_}
+use mathlib.Core.Option.{Option, none, some}
+use Prim.Native.Nat.{ℕ, _<_, _≤_}
+use native.Mathlib.Omega.{arith}
+use lib.Dec.{leb}
+use lib.IntN.{ℤ}
+use lib.ListN.{length}
+use borrow.Author.Tests.{leb-true, not-true, not-false}
+use Rattle.cells.specs.Choice.{if_then_else_}
+use Rattle.plan.specs.declared.query.StoredQuery.{StoredQuery}
+use Rattle.text.specs.Bytes.{Bytes}
+use Rattle.text.specs.Lines.{Line}
+use Rattle.text.specs.Lines.{linesOf}
+use Rattle.text.specs.Reading.{placed, ifPlaced, textLines, tablesOf, reportOf}
+use Rattle.text.specs.Questions.{question3, question4}
+use Rattle.text.specs.Parts.{linesFrom}
+use Rattle.load.specs.Cells.{textCells, laid}
+use Rattle.reader.specs.Survey.{start, stepIn, readFrom, surveyOf}
+use Rattle.reader.specs.Agrees.{linesAfter, surveyed, survey-reads}
+use Rattle.reader.specs.Query.{storedOf, tablesFit, no-early-row, answer-3, answer-4}
+use Rattle.reader.specs.declared.read.Answer.{Answer}
+use Rattle.reader.specs.declared.read.Outcome.{Outcome}
+use Rattle.reader.specs.declared.read.Outcome.the-variants as O
+use Rattle.reader.specs.declared.survey.Reading.{Reading}
+use Rattle.reader.specs.declared.survey.Stepped.{Stepped}
+
+-- the number of the question that turned the text down, or the query that it says
+pub data TextOutcome : Type 0 where
+  turnedDown : ℕ → TextOutcome
+  says : StoredQuery → TextOutcome
+
+abbrev outcomeIn : Outcome → StoredQuery → TextOutcome
+outcomeIn (O.Refused n) q = turnedDown n
+outcomeIn O.Accepted q = says q
+
+-- what an answer says
+abbrev pub answerIn : Answer → TextOutcome
+answerIn a = outcomeIn (a .outcome) (a .query)
+
+-- questions 3 and 4 of lines that stand in their places
+unfoldable pub linesOutcome : List Line → TextOutcome
+linesOutcome ls =
+    if question3 (reportOf ls) then (if question4 (reportOf ls) then says (storedOf (linesAfter start ls)) else turnedDown 4)
+    else turnedDown 3
+
+unfoldable pub outcomeOf : Option (List Line) → TextOutcome
+outcomeOf none = turnedDown 2
+outcomeOf (some ls) = linesOutcome ls
+
+-- the first of questions 2 to 4 that is answered no, or the query
+unfoldable pub readOutcome : Bytes → TextOutcome
+readOutcome bs = outcomeOf (textLines bs)
+
+-- the run of cells: the text's cells and then what was there, where the text passes questions 2 to 4
+unfoldable pub runBy : TextOutcome → Bytes → List ℤ → List ℤ
+runBy (turnedDown n) bs run = run
+runBy (says q) bs run = laid run 0 (textCells bs)
+
+unfoldable pub runAfter : Bytes → List ℤ → List ℤ
+runAfter bs run = runBy (readOutcome bs) bs run
+
+-- ---- by what the pass over the lines leaves
+
+-- questions 3 and 4 of a reading
+unfoldable pub readingOutcome : Reading → TextOutcome
+readingOutcome s = if tablesFit (s .tables) then (if s .tables .even then says (storedOf s) else turnedDown 4) else turnedDown 3
+
+unfoldable pub surveyOutcome : Option Reading → TextOutcome
+surveyOutcome none = turnedDown 2
+surveyOutcome (some s) = readingOutcome s
+
+-- lines of a text stand in their places
+module _ (ls : List Line) where
+  placed-three : (xs : List Line) (t : Bool) → placed 0 xs ≡ t
+      → _≡_ {A = Option (List Line)} (elim t [ true ↦ some xs | false ↦ none ]) (some ls) → placed 0 ls ≡ true
+  placed-three xs true p e = let q : xs ≡ ls = cc in subst (λ (z : List Line). placed 0 z ≡ true) q p
+  placed-three xs false p e = absurd (let y : _≡_ {A = ℕ} 0 1 = cc in omega arith)
+
+  placed-two : (o : Option (List Line)) → _≡_ {A = Option (List Line)} (elim o [ none ↦ none | some xs ↦ ifPlaced xs ]) (some ls)
+      → placed 0 ls ≡ true
+  unfolding ifPlaced
+  placed-two none e = absurd (let y : _≡_ {A = ℕ} 0 1 = cc in omega arith)
+  placed-two (some xs) e = placed-three xs (placed 0 xs) refl e
+
+  placed-one : (o : Option (List Line)) (t : Bool)
+      → _≡_ {A = Option (List Line)} (elim t [ true ↦ elim o [ none ↦ none | some xs ↦ ifPlaced xs ] | false ↦ none ]) (some ls)
+      → placed 0 ls ≡ true
+  placed-one o true e = placed-two o e
+  placed-one o false e = absurd (let y : _≡_ {A = ℕ} 0 1 = cc in omega arith)
+
+pub lines-placed : (bs : Bytes) (ls : List Line) → textLines bs ≡ some ls → placed 0 ls ≡ true
+unfolding textLines
+lines-placed bs ls e = placed-one ls (linesOf bs) (leb (length bs) 16384) e
+
+pub outcome-same : (bs : Bytes) → surveyOutcome (surveyOf bs) ≡ readOutcome bs
+unfolding surveyOutcome readOutcome outcomeOf surveyed readingOutcome linesOutcome
+outcome-same bs = ap surveyOutcome (survey-reads bs) ∙ go (textLines bs) refl
+  where
+    go : (o : Option (List Line)) → textLines bs ≡ o → surveyOutcome (surveyed o) ≡ outcomeOf o
+    go none e = refl
+    go (some ls) e =
+        let n : (tablesOf ls) .0 ≡ [] = no-early-row 0 ls (λ z. omega arith) (lines-placed bs ls e) in
+        rw (answer-3 ls n, answer-4 ls n)
+
+-- ---- by the tests that the code makes
+
+both-passed : (a b : Bool) (x : TextOutcome) → a ≡ true → b ≡ true → (if a then (if b then x else turnedDown 4) else turnedDown 3) ≡ x
+both-passed a b x h k = rw (h, k)
+
+short-by : (bs : Bytes) (s : Reading) (o : Option Reading) (t : Bool) → leb (length bs) 16384 ≡ t
+    → _≡_ {A = Option Reading} (some s) (if t then o else none) → length bs ≤ 16384
+short-by bs s o true l e = leb-true (length bs) 16384 l
+short-by bs s o false l e = absurd (let y : _≡_ {A = ℕ} 0 1 = cc in omega arith)
+
+module _ (bs : Bytes) (r : Stepped) (e : stepIn r ≡ surveyOf bs) where
+  refused : r .accepted ≡ false → none ≡ surveyOf bs
+  refused h = let k : none ≡ stepIn r = rw h in k ∙ e
+
+  accepted : r .accepted ≡ true → some (r .reading) ≡ surveyOf bs
+  accepted h = let k : some (r .reading) ≡ stepIn r = rw h in k ∙ e
+
+  pub outcome-2 : r .accepted ≡ false → turnedDown 2 ≡ readOutcome bs
+  unfolding surveyOutcome
+  outcome-2 h = ap surveyOutcome (refused h) ∙ outcome-same bs
+
+  pub outcome-3 : {t : Bool} → r .accepted ≡ true → t ≡ tablesFit (r .reading .tables) → t ≡ false → turnedDown 3 ≡ readOutcome bs
+  unfolding surveyOutcome readingOutcome
+  outcome-3 h f k =
+      let g : turnedDown 3 ≡ readingOutcome (r .reading) = rw (sym f ∙ k) in
+      g ∙ ap surveyOutcome (accepted h) ∙ outcome-same bs
+
+  pub outcome-4 : {t : Bool} → r .accepted ≡ true → t ≡ tablesFit (r .reading .tables) → t ≡ true
+      → r .reading .tables .even ≡ false → turnedDown 4 ≡ readOutcome bs
+  unfolding surveyOutcome readingOutcome
+  outcome-4 h f k n =
+      let g : turnedDown 4 ≡ readingOutcome (r .reading) = rw (sym f ∙ k, n) in
+      g ∙ ap surveyOutcome (accepted h) ∙ outcome-same bs
+
+  pub outcome-says : {t : Bool} {q : StoredQuery} → r .accepted ≡ true → t ≡ tablesFit (r .reading .tables) → t ≡ true
+      → r .reading .tables .even ≡ true → q ≡ storedOf (r .reading) → says q ≡ readOutcome bs
+  unfolding surveyOutcome readingOutcome
+  outcome-says {t} {q} h f k n p =
+      ap says p ∙ sym (both-passed (tablesFit (r .reading .tables)) (r .reading .tables .even) (says (storedOf (r .reading))) (sym f ∙ k) n)
+      ∙ ap surveyOutcome (accepted h) ∙ outcome-same bs
+
+  pub text-short : r .accepted ≡ true → length bs ≤ 16384
+  unfolding surveyOf
+  text-short h = short-by bs (r .reading) (readFrom start (linesFrom bs 0)) (leb (length bs) 16384) refl (accepted h)
+
+-- ---- the run
+
+pub run-refused : (bs : Bytes) (run : List ℤ) (n : ℕ) → turnedDown n ≡ readOutcome bs → run ≡ runAfter bs run
+unfolding runAfter runBy
+run-refused bs run n e = ap (λ (o : TextOutcome). runBy o bs run) e
+
+pub run-accepted : (bs : Bytes) (run : List ℤ) (q : StoredQuery) → says q ≡ readOutcome bs → laid run 0 (textCells bs) ≡ runAfter bs run
+unfolding runAfter runBy
+run-accepted bs run q e = ap (λ (o : TextOutcome). runBy o bs run) e

@@ -1,0 +1,52 @@
+// A report text read: questions 2, 3 and 4, the query, and the cells in the lent run. Questions 5 to 7 and 9 are put to the query.
+use crate::stored;
+use crate::survey;
+use load::run;
+use plan::query::StoredQuery;
+ghost use mathlib.Core.Path.{_≡_};
+ghost use Rattle.reader.specs.Outcome.{answerIn, readOutcome, runAfter};
+
+// The number of the question that turned the text down; or accepted.
+pub enum Outcome {
+    Refused(u8),
+    Accepted,
+}
+
+// The query is the text's where it is accepted.
+pub struct Answer {
+    pub outcome: Outcome,
+    pub query: StoredQuery,
+}
+
+// The run has the cells, each table's where the previous table's end, where the text is accepted; else it is as it was.
+pub fn read(text: &[u8], cells: &mut [i32]) -> Answer
+    ensures { λ r. ⌜ (answerIn r ≡ readOutcome (now (text .entry))) × (now (cells .exit) ≡ runAfter (now (text .entry)) (now (cells .entry))) ⌝ }
+{
+    let s = survey::survey(text);
+    let reading = s.reading;
+    let query = stored::stored(reading);
+    if !s.accepted {
+        return Answer {
+            outcome: Outcome::Refused(2),
+            query: query,
+        };
+    }
+    let t = reading.tables;
+    if !stored::tables_fit(t) {
+        return Answer {
+            outcome: Outcome::Refused(3),
+            query: query,
+        };
+    }
+    if !t.even {
+        return Answer {
+            outcome: Outcome::Refused(4),
+            query: query,
+        };
+    }
+    run::put_cells(text, cells);
+    Answer {
+        outcome: Outcome::Accepted,
+        query: query,
+    }
+}
