@@ -4,7 +4,7 @@ use mathlib.Core.Path.{_≡_, refl, sym, ap, _∙_, subst}
 use mathlib.Core.Logic.{_≢_, _⊎_, inl, inr, ⊎-elim, _↔_}
 use mathlib.Core.Bool.{Bool, _&&_}
 use mathlib.Core.List.{List, [], _∷_, _++_, map}
-use Prim.Native.Nat.{ℕ, zero, suc, _+_, _-_, _<_}
+use Prim.Native.Nat.{ℕ, zero, suc, _+_, _-_, _≤_, _<_}
 use native.Mathlib.Omega.{arith}
 use lib.Dec.{T, eqb}
 use lib.ListN.{length, getD, length-map}
@@ -118,11 +118,11 @@ module _ (q : Query) {G : Join → Type 0} {ps : List Pair} {js : List Join} (ma
 
   -- P of every node, where it holds of each table, and P of a join's node follows from P of its sides
   pub each-node-at : (P : Tree ℕ → Type 0) → ((i : ℕ) → i < tableCount q → P (leaf i))
-      → ((m : ℕ) → m < length (treesOf q js) → (j : Join) → treeAt (treesOf q js) m ≡ treeOf (treesOf q js) j
+      → ((m : ℕ) → tableCount q ≤ m → m < length (treesOf q js) → (j : Join) → treeAt (treesOf q js) m ≡ treeOf (treesOf q js) j
       → P (treeAt (treesOf q js) (j .left)) → P (treeAt (treesOf q js) (j .right)) → P (treeAt (treesOf q js) m))
       → (i : ℕ) → i < length (treesOf q js) → P (treeAt (treesOf q js) i)
   unfolding treesOf tableNumbers
-  each-node-at P base make = every-node-at P make staged (λ i h. subst P (sym (leaf-at i h)) (base i h))
+  each-node-at P base make = every-node-at P n make staged (omega arith) (λ i h. subst P (sym (leaf-at i h)) (base i h))
 
   -- the whole tree has every table
   pub last-has-every : (t : ℕ) → t < tableCount q → HasTable (lastTree (treesOf q js)) t

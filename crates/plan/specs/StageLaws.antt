@@ -293,7 +293,7 @@ module _ {G : Join → Type 0} {trees : List (Tree ℕ)} {M : ℕ} {U : List ℕ
       above i h =
           let (em, eu) = stages-count s in
           ⊎-elim (λ k. elim k [ ]) (λ x. x) (side-above P sides s i (all-below (M - 1) U (sides-differ s eachNil)
-            (λ u k. let d = sides-lower s (λ v z. elim z [ ]) u k in omega arith) (omega arith) i (omega arith)))
+          (λ u k. let d = sides-lower s (λ v z. elim z [ ]) u k in omega arith) (omega arith) i (omega arith)))
 
       down : (fuel i : ℕ) → M ≤ i + fuel → i < M → P (treeAt trees i)
       down zero i h b = absurd (omega arith)
@@ -302,12 +302,12 @@ module _ {G : Join → Type 0} {trees : List (Tree ℕ)} {M : ℕ} {U : List ℕ
           (λ q. let (p, up, pM, get) = above i (omega arith) in get (down fuel p (omega arith) pM))
 
   -- P of every node, where P of each new node follows from P of those before it
-  pub every-node-at : (P : Tree ℕ → Type 0) → ((m : ℕ) → m < M → (j : Join) → treeAt trees m ≡ treeOf trees j → P (treeAt trees (j .left))
-      → P (treeAt trees (j .right)) → P (treeAt trees m))
-      → {m : ℕ} {used : List ℕ} {js : List Join} → Stages G trees M U m used js
+  pub every-node-at : (P : Tree ℕ → Type 0) (n : ℕ) → ((m : ℕ) → n ≤ m → m < M → (j : Join) → treeAt trees m ≡ treeOf trees j
+      → P (treeAt trees (j .left)) → P (treeAt trees (j .right)) → P (treeAt trees m))
+      → {m : ℕ} {used : List ℕ} {js : List Join} → Stages G trees M U m used js → n ≤ m
       → ((i : ℕ) → i < m → P (treeAt trees i)) → (i : ℕ) → i < M → P (treeAt trees i)
-  every-node-at P make allMade h = h
-  every-node-at P make (makes {m} {j} hl hr ul ur lr e g s) h = every-node-at P make s
+  every-node-at P n make allMade l h = h
+  every-node-at P n make (makes {m} {j} hl hr ul ur lr e g s) l h = every-node-at P n make s (omega arith)
       (λ i b. by-cases (ℕ-discrete i m)
-      (λ q. subst (λ (k : ℕ). P (treeAt trees k)) (sym q) (make m (omega (arith, stages-count s)) j e (h (j .left) hl) (h (j .right) hr)))
+      (λ q. subst (λ (k : ℕ). P (treeAt trees k)) (sym q) (make m l (omega (arith, stages-count s)) j e (h (j .left) hl) (h (j .right) hr)))
       (λ q. h i (omega arith)))
