@@ -7,3 +7,4 @@ pub mod Kept
 pub mod Counts
 pub mod Query
 pub mod Outcome
+pub mod Whole

@@ -76,7 +76,7 @@ module _ (t : Tables) where
 
 -- ---- each struct by its own lines
 
-after-tables : (s : Reading) (ls : List Line) → (linesAfter s ls) .tables ≡ tablesAfter (s .tables) ls
+pub after-tables : (s : Reading) (ls : List Line) → (linesAfter s ls) .tables ≡ tablesAfter (s .tables) ls
 unfolding linesAfter afterLine tablesAfter
 after-tables s [] = refl
 after-tables s (tableLine n ∷ ls) = after-tables (afterLine s (tableLine n)) ls
@@ -85,7 +85,7 @@ after-tables s (joinLine k a b ∷ ls) = after-tables (afterLine s (joinLine k a
 after-tables s (conditionLine c ∷ ls) = after-tables (afterLine s (conditionLine c)) ls
 after-tables s (orderLine a b ∷ ls) = after-tables (afterLine s (orderLine a b)) ls
 
-after-joins : (s : Reading) (ls : List Line) → (linesAfter s ls) .joins ≡ joinsAfter (s .joins) ls
+pub after-joins : (s : Reading) (ls : List Line) → (linesAfter s ls) .joins ≡ joinsAfter (s .joins) ls
 unfolding linesAfter afterLine joinsAfter
 after-joins s [] = refl
 after-joins s (tableLine n ∷ ls) = after-joins (afterLine s (tableLine n)) ls
@@ -94,7 +94,7 @@ after-joins s (joinLine k a b ∷ ls) = after-joins (afterLine s (joinLine k a b
 after-joins s (conditionLine c ∷ ls) = after-joins (afterLine s (conditionLine c)) ls
 after-joins s (orderLine a b ∷ ls) = after-joins (afterLine s (orderLine a b)) ls
 
-after-pairs : (s : Reading) (ls : List Line) → (linesAfter s ls) .pairs ≡ pairsAfter (s .pairs) ls
+pub after-pairs : (s : Reading) (ls : List Line) → (linesAfter s ls) .pairs ≡ pairsAfter (s .pairs) ls
 unfolding linesAfter afterLine pairsAfter
 after-pairs s [] = refl
 after-pairs s (tableLine n ∷ ls) = after-pairs (afterLine s (tableLine n)) ls
@@ -150,7 +150,7 @@ module _ {A : Type 0} where
 
 -- ---- the query
 
-abbrev done : List Line → Reading
+abbrev pub done : List Line → Reading
 done ls = linesAfter start ls
 
 pub stored-tables : (ls : List Line) → (storedOf (done ls)) .«table_count» ≡ length ((tablesOf ls) .1)
@@ -173,7 +173,7 @@ unfolding storedOf start noPairs
 stored-paired ls =
     ap (λ (p : Pairs). p .count) (after-pairs start ls) ∙ pairs-count noPairs ls ∙ zero-add (length (pairsOf ls))
 
-kept-columns : (ls : List Line) → length ((tablesOf ls) .1) ≤ 8
+pub kept-columns : (ls : List Line) → length ((tablesOf ls) .1) ≤ 8
     → take (length ((tablesOf ls) .1)) ((storedOf (done ls)) .layout .columns) ≡ map (λ (x : Table). x .columns) ((tablesOf ls) .1)
 unfolding storedOf closedRows start noTables
 kept-columns ls h =
@@ -183,7 +183,7 @@ kept-columns ls h =
     ∙ ap (take (length ((tablesOf ls) .1))) (columns-kept noTables ls)
     ∙ rw (sym k) (sets-take (replicate 8 0) cs (rw k h))
 
-kept-joins : (ls : List Line) → length ((storedJoins 0 ls) .1) ≤ 7
+pub kept-joins : (ls : List Line) → length ((storedJoins 0 ls) .1) ≤ 7
     → take (length ((storedJoins 0 ls) .1)) ((storedOf (done ls)) .joins) ≡ (storedJoins 0 ls) .1
 unfolding storedOf start noJoins
 kept-joins ls h =
@@ -199,7 +199,7 @@ kept-conditions ls h =
     ∙ ap (take (length (conditionsOf ls))) (conditions-kept noJoins ls)
     ∙ sets-take (noJoins .conditions) (conditionsOf ls) h
 
-kept-pairs : (ls : List Line) → take (length (pairsOf ls)) ((storedOf (done ls)) .pairs) ≡ take 7 (map storePair (pairsOf ls))
+pub kept-pairs : (ls : List Line) → take (length (pairsOf ls)) ((storedOf (done ls)) .pairs) ≡ take 7 (map storePair (pairsOf ls))
 unfolding storedOf start noPairs
 kept-pairs ls =
     let k : length (map storePair (pairsOf ls)) ≡ length (pairsOf ls) = length-map (pairsOf ls) storePair in
@@ -207,7 +207,7 @@ kept-pairs ls =
     ∙ ap (take (length (pairsOf ls))) (pairs-kept noPairs ls)
     ∙ rw (sym k) (sets-kept (noPairs .pairs) (map storePair (pairsOf ls)))
 
-back-pairs : (n : ℕ) (ps : List Pair) → map pairIn (take n (map storePair ps)) ≡ take n ps
+pub back-pairs : (n : ℕ) (ps : List Pair) → map pairIn (take n (map storePair ps)) ≡ take n ps
 unfolding pairIn storePair
 back-pairs zero ps = refl
 back-pairs (suc n) [] = refl

@@ -1,0 +1,2 @@
+// Questions 2 to 7, put to a text.
+pub mod accept;
