@@ -1,17 +1,17 @@
 -- Laws of bits, over every width: the bits of a union, of an intersection, of one number and of a list's word; words with the
 -- same bits are equal. Assumes nothing.
 use mathlib.Core.Path.{_≡_, refl, sym, ap, _∙_, subst}
-use mathlib.Core.Logic.{_≢_, _⊎_, inl, inr, ⊎-elim, by-cases, _↔_}
+use mathlib.Core.Logic.{_≢_, _⊎_, ⊎-elim, _↔_}
 use mathlib.Core.Bool.{Bool, true, false, not, _&&_, _||_}
 use mathlib.Core.List.{List, [], _∷_, _++_}
-use Prim.Native.Nat.{ℕ, zero, suc, _+_, _*_, _/_, _%_, _^_, _<_, _≤_, suc-le-suc, max, min}
+use Prim.Native.Nat.{ℕ, zero, suc, _+_, _*_, _/_, _%_, _^_, _<_, _≤_, max, min}
 use native.Mathlib.Nat.{pow-suc, pow-succ', pow-le-pow-right, div-one, div-div-eq-div-mul, div-eq-of-lt}
 use native.Mathlib.Omega.{arith}
 use lib.Dec.{T, eqb, eqb·zero-suc, eqb·suc-zero, eqb·suc-suc}
 use lib.Bits.{bitAnd, bitOr, or-shr, or-step, and-shr, and-step}
 use mir.Facts.{or-yes}
 use Rattle.rows.specs.Lists.{any, has}
-use Rattle.rows.specs.ListLaws.{_isIn_, here, there, has-intro, has-elim, append-left, append-right, append-elim, or-left, or-right}
+use Rattle.rows.specs.ListLaws.{_isIn_, here, has-intro, has-elim, append-left, append-right, append-elim, or-left, or-right}
 use Rattle.plan.specs.Bits.{hasBit}
 use Rattle.plan.specs.Steps.{bitsOf}
 

@@ -1,19 +1,18 @@
 -- Laws of the sets over words, join after join. Assumes nothing.
-use mathlib.Core.Path.{_≡_, refl, sym, ap, ap₂, _∙_, subst}
-use mathlib.Core.Logic.{_≢_, _⊎_, inl, inr, ⊎-elim, by-cases}
-use mathlib.Core.List.{List, [], _∷_, _++_, map, map-append}
+use mathlib.Core.Path.{_≡_, refl, sym, ap, _∙_}
+use mathlib.Core.Logic.{_⊎_, ⊎-elim}
+use mathlib.Core.List.{List, [], _∷_, _++_, map}
 use Prim.Native.Nat.{ℕ, zero, suc, _+_, _<_, _≤_}
 use native.Mathlib.Omega.{arith}
-use lib.ListN.{length, getD, take, replicate, length-take, length-map, length-append, List·getD-eq-default}
+use lib.ListN.{length, getD, take, replicate, length-take, length-map}
 use lib.Seq.{length-take-le}
 use Rattle.rows.specs.Lists.{range}
-use Rattle.rows.specs.ListLaws.{_isIn_, here, there, decT, range-elim, append-elim, map-elim}
+use Rattle.rows.specs.ListLaws.{_isIn_, here, append-elim}
 use Rattle.plan.specs.Report.{Join, Pair, Query, tableCount, tableNumbers, joinPairs}
 use Rattle.plan.specs.Stored.{queryIn, joinIn}
 use Rattle.plan.specs.Steps.{bitsOf}
 use Rattle.plan.specs.Nodes.{grown, tablesAt, tablesOfPair, nodesOf, joinNodes}
 use Rattle.plan.specs.Sets.{Sets, setOf, setsAfter, setsBy, emptySets, blankingSets}
-use Rattle.plan.specs.BuiltLaws.{length-range}
 use Rattle.plan.specs.BitLaws.{bits-none}
 use Rattle.plan.specs.Words.{wordsTo, setWords, nodeWords, joinBits, afterWords}
 use Rattle.plan.specs.SetWords.{tab-same, Proper, proper-empty, proper-after, after-words}

@@ -1,30 +1,29 @@
 -- Laws of joins as the code holds them: their conditions and the tables that these name, as bits. Assumes nothing.
-use mathlib.Core.Path.{_≡_, refl, sym, ap, ap₂, _∙_, subst}
-use mathlib.Core.Logic.{_≢_, _⊎_, inl, inr, ⊎-elim, by-cases, _↔_}
-use mathlib.Core.Bool.{Bool, true, false, not, _&&_, _||_}
-use mathlib.Core.List.{List, [], _∷_, _++_, map}
-use Prim.Native.Nat.{ℕ, zero, suc, _+_, _<_, _≤_}
+use mathlib.Core.Path.{_≡_, sym, ap, _∙_, subst}
+use mathlib.Core.Logic.{_⊎_, inl, inr, ⊎-elim, by-cases}
+use mathlib.Core.Bool.{Bool, not}
+use mathlib.Core.List.{List, [], _∷_}
+use Prim.Native.Nat.{ℕ, _<_, _≤_}
 use native.Mathlib.Omega.{arith}
-use lib.Bits.{bitAnd, bitOr}
+use lib.Bits.{bitOr}
 use lib.Dec.{T, ltb, not-T}
 use lib.IntN.{ℤ}
-use lib.ListN.{length, getD, take, length-take, List·getD-eq-default}
+use lib.ListN.{length, getD, List·getD-eq-default}
 use mir.Facts.{ltb-yes, ltb-no, eqb-yes, yes-eqb}
 use lib.Seq.{getD-take, length-take-le}
 use Rattle.cells.specs.TableLaws.{getD-within}
 use Rattle.cells.specs.Condition.{namesOf, sideNames}
 use Rattle.cells.specs.declared.condition.Condition.{Condition}
-use Rattle.cells.specs.declared.condition.Side.{Side}
 use Rattle.cells.specs.declared.condition.Side.the-variants.{Column, Constant}
 use Rattle.rows.specs.Lists.{range, keep, has}
 use Rattle.rows.specs.ListLaws.{_isIn_, here, there, decT, has-intro, has-elim, keep-elim, keep-intro, range-intro, range-elim, flatMap-intro, flatMap-elim}
-use Rattle.plan.specs.Report.{Join, Query, conditionNumbers, conditionAt, noCondition, namedBy}
-use Rattle.plan.specs.Stored.{queryIn, joinIn}
+use Rattle.plan.specs.Report.{Query, conditionNumbers, conditionAt, noCondition, namedBy}
+use Rattle.plan.specs.Stored.{queryIn}
 use Rattle.plan.specs.Bits.{hasBit}
 use Rattle.plan.specs.Steps.{bitsOf}
 use Rattle.plan.specs.BitLaws.{bit-elim, bit-intro, word-is, bits-append, has-one}
-use Rattle.plan.specs.Words.{onlyIf, unionTo, wordTables, tableBits, nameBits, namedBits, conditionBits, joinBits}
-use Rattle.plan.specs.WordLaws.{or-elim, or-intro, only-elim, only-intro, union-elim, union-intro, keep-append, table-bits}
+use Rattle.plan.specs.Words.{onlyIf, unionTo, wordTables, tableBits, nameBits, namedBits, conditionBits}
+use Rattle.plan.specs.WordLaws.{or-elim, or-intro, only-elim, only-intro, union-elim, union-intro, keep-append}
 use Rattle.plan.specs.declared.query.StoredQuery.{StoredQuery}
 
 -- the conditions that are kept, and how many

@@ -1,25 +1,24 @@
 -- Laws of nodes over words: the tables under each node, pair after pair. Assumes nothing.
-use mathlib.Core.Path.{_≡_, refl, sym, ap, ap₂, _∙_, subst}
-use mathlib.Core.Logic.{_≢_, _⊎_, inl, inr, ⊎-elim, by-cases}
+use mathlib.Core.Path.{_≡_, refl, sym, ap, _∙_, subst}
+use mathlib.Core.Logic.{_≢_, by-cases}
 use mathlib.Core.List.{List, [], _∷_, _++_, map, map-append}
 use Prim.Native.Nat.{ℕ, zero, suc, _+_, _^_, _<_, _≤_}
 use native.Mathlib.Decide.{ℕ-discrete}
 use native.Mathlib.Numerals.{add-one}
 use native.Mathlib.Omega.{arith}
 use lib.Bits.{bitOr, or-zero-r}
-use lib.Dec.{T, ltb, not-T}
+use lib.Dec.{ltb, not-T}
 use lib.ListN.{length, getD, set, take, length-set, length-map, length-append, List·getD-append, List·getD-eq-default}
 use lib.Seq.{ext-getD, getD-set-same, getD-set-other, getD-append-seam, take-suc, take-suc-set, length-take-le, getD-take}
 use mir.Facts.{ltb-yes, ltb-no}
 use Rattle.cells.specs.TableLaws.{getD-within}
 use Rattle.rows.specs.Lists.{range}
-use Rattle.rows.specs.ListLaws.{_isIn_, here, there, decT, range-elim, append-elim, map-elim}
+use Rattle.rows.specs.ListLaws.{there, decT}
 use Rattle.plan.specs.Report.{Join, Pair, Query, tableCount, tableNumbers, joinPairs, joinOrder, orderOr}
 use Rattle.plan.specs.Nodes.{grown, tablesAt, tablesOfPair, nodesOf}
 use Rattle.plan.specs.Stored.{queryIn, joinIn, pairIn}
-use Rattle.plan.specs.NodeLaws.{grown-length, extended}
+use Rattle.plan.specs.NodeLaws.{grown-length}
 use Rattle.plan.specs.BuiltLaws.{length-range}
-use Rattle.plan.specs.SetLaws.{getD-range}
 use Rattle.plan.specs.Steps.{bitsOf}
 use Rattle.plan.specs.BitLaws.{bits-append}
 use Rattle.plan.specs.Words.{wordsTo, nodeWords, leafWords, nodesFrom}

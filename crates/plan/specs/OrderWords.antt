@@ -2,7 +2,7 @@
 -- holds them. Assumes nothing.
 use mathlib.Core.Path.{_≡_}
 use mathlib.Core.List.{List, map}
-use Prim.Native.Nat.{ℕ, _≤_}
+use Prim.Native.Nat.{_≤_}
 use lib.ListN.{length, take}
 use Rattle.plan.specs.Report.{Pair}
 use Rattle.plan.specs.Stored.{pairIn}

@@ -1,40 +1,35 @@
 -- Laws of pairs over words: usable conditions, how a pair is joined, and whether its conditions fit a kind. Assumes nothing.
-use mathlib.Core.Path.{_≡_, refl, sym, ap, ap₂, _∙_, subst}
-use mathlib.Core.Logic.{_≢_, _⊎_, inl, inr, ⊎-elim, by-cases, _↔_}
-use mathlib.Core.Bool.{Bool, true, false, not, _&&_, _||_}
-use mathlib.Core.List.{List, [], _∷_, _++_, map, flatMap}
-use Prim.Native.Nat.{ℕ, zero, suc, _+_, _<_, _≤_}
+use mathlib.Core.Path.{_≡_, refl, sym, ap, _∙_, subst}
+use mathlib.Core.Logic.{_⊎_, inl, inr, ⊎-elim}
+use mathlib.Core.Bool.{Bool, true, false, _&&_, _||_}
+use mathlib.Core.List.{List, [], _∷_, flatMap}
+use Prim.Native.Nat.{ℕ, _<_, _≤_}
 use native.Mathlib.Omega.{arith}
 use lib.Bits.{bitAnd, bitOr}
-use lib.Dec.{T, eqb, ltb}
+use lib.Dec.{T, eqb}
 use lib.IntN.{ℤ}
 use lib.ListN.{length, getD, length-map, List·getD-map}
 use mir.Facts.{and-yes, yes-and, or-yes, eqb-yes, yes-eqb}
 use borrow.Author.Tests.{ne-eqb}
 use Rattle.cells.specs.Below.{at-below}
-use Rattle.cells.specs.Choice.{if_then_else_}
 use Rattle.cells.specs.declared.condition.Condition.{Condition}
 use Rattle.cells.specs.declared.condition.Side.{Side}
 use Rattle.cells.specs.declared.condition.Side.the-variants.{Column, Constant}
-use Rattle.rows.specs.Lists.{range, all, keep, has}
-use Rattle.rows.specs.ListLaws.{_isIn_, here, there, or-left, or-right, has-intro, has-elim, keep-elim, keep-intro, all-elim, all-intro}
-use Rattle.rows.specs.declared.kind.Kind.{Kind}
-use Rattle.rows.specs.declared.kind.Kind.the-variants.{Inner, Outer, Product}
-use Rattle.plan.specs.Report.{Join, Pair, Query, tableCount, conditionNumbers, conditionAt, namedBy, joinOrder}
+use Rattle.rows.specs.Lists.{all, keep, has}
+use Rattle.rows.specs.ListLaws.{_isIn_, there, or-left, or-right, has-intro, has-elim, keep-elim, keep-intro, all-elim, all-intro}
+use Rattle.plan.specs.Report.{Pair, Query, tableCount, conditionNumbers, conditionAt, namedBy, joinOrder}
 use Rattle.plan.specs.Nodes.{tablesAt, orderNodes}
-use Rattle.plan.specs.Sets.{Sets, setOf, emptySets, blankingSets}
+use Rattle.plan.specs.Sets.{Sets, setOf, blankingSets}
 use Rattle.plan.specs.Plan.{between, crosses, inEvery, usable, paired, fitsKind, usableAt, allIn, planned, plannedJoins}
 use Rattle.plan.specs.Bits.{hasBit}
 use Rattle.plan.specs.Steps.{bitsOf}
-use Rattle.plan.specs.BitLaws.{same-test, same-bits, has-bits, bit-elim, bit-intro, word-is, same-word, bits-none, some-bits}
-use Rattle.plan.specs.Words.{everyBit, everyUnless, meetTo, wordTables, setWords, nodeWords, namedBits, conditionBits, joinBits}
-use Rattle.plan.specs.WordLaws.{or-elim, or-intro, and-elim, and-intro, meet-elim, meet-intro, keep-same}
+use Rattle.plan.specs.BitLaws.{same-test, same-bits, has-bits, bit-elim, bit-intro, word-is, bits-none, some-bits}
+use Rattle.plan.specs.Words.{everyBit, everyUnless, wordTables, setWords, nodeWords, namedBits, conditionBits, joinBits}
+use Rattle.plan.specs.WordLaws.{or-elim, or-intro, and-elim, and-intro, meet-elim, meet-intro}
 use Rattle.plan.specs.JoinLaws.{condition-elim, condition-intro, named-within}
 use Rattle.plan.specs.SetWords.{set-word, node-word, number-elim}
 use Rattle.plan.specs.FoldWords.{nodes-below, nodes-most, blanking-proper}
 use Rattle.plan.specs.PairWords.{commonBits, betweenBits, crossesBits, crossingBits, withinBits, usableWord, usableBits, usableIn, fitsBits, pairFits, pairedBits, plannedBits}
-use Rattle.plan.specs.declared.join.BitJoin.{BitJoin}
-use Rattle.plan.specs.declared.pairs.Usable.{Usable}
 
 -- ---- the two kinds of conditions
 

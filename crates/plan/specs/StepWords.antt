@@ -1,12 +1,12 @@
 -- Shapes that serve the contracts of this crate's functions alone; no demand cites them, but for the list of a plan's steps as
 -- the code holds it. Assumes nothing.
-use mathlib.Core.List.{List, [], _∷_, _++_, map}
+use mathlib.Core.List.{List, _++_, map}
 use Prim.Native.Nat.{ℕ, zero, suc, _+_, _-_, _%_}
 use lib.Bits.{bitAnd, bitXor}
 use lib.Dec.{eqb}
 use lib.ListN.{length, getD, set, replicate}
 use Rattle.cells.specs.Choice.{if_then_else_}
-use Rattle.plan.specs.Report.{Pair, Query, joinOrder}
+use Rattle.plan.specs.Report.{Query, joinOrder}
 use Rattle.plan.specs.Plan.{planned}
 use Rattle.plan.specs.Steps.{kindNumber, pairStep, zeroStep}
 use Rattle.plan.specs.declared.join.BitJoin.{BitJoin}

@@ -1,7 +1,7 @@
 -- Laws of the trees over words: their tables and right sides, join after join; question 8 of one join. Assumes nothing.
 use mathlib.Core.Path.{_≡_, refl, sym, ap, ap₂, _∙_, subst}
-use mathlib.Core.Logic.{_≢_, _⊎_, inl, inr, ⊎-elim, by-cases}
-use mathlib.Core.Bool.{Bool, true, false, not, _&&_, _||_}
+use mathlib.Core.Logic.{_⊎_, ⊎-elim, by-cases}
+use mathlib.Core.Bool.{Bool, true, false, not, _&&_}
 use mathlib.Core.List.{List, [], _∷_, _++_, map, map-append}
 use Prim.Native.Nat.{ℕ, zero, suc, _+_, _^_, _<_, _≤_}
 use native.Mathlib.Omega.{arith}
@@ -24,7 +24,7 @@ use Rattle.plan.specs.NodeLaws.{grown-length}
 use Rattle.plan.specs.BuiltLaws.{length-range}
 use Rattle.plan.specs.Bits.{hasBit}
 use Rattle.plan.specs.Steps.{bitsOf}
-use Rattle.plan.specs.BitLaws.{same-test, bit-elim, bit-intro, bits-append, bits-none, has-none, same-bits}
+use Rattle.plan.specs.BitLaws.{same-test, bit-elim, bit-intro, bits-append, bits-none, same-bits}
 use Rattle.plan.specs.Words.{wordTables, wordsTo, joinBits}
 use Rattle.plan.specs.WordLaws.{and-elim, and-intro, none-elim, range-next, tab-at, tab-length}
 use Rattle.plan.specs.SetWords.{tab-same, words-at}

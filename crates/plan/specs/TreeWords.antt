@@ -1,6 +1,6 @@
 -- Shapes that serve the contracts of this crate's functions alone; no demand cites them. Of each node's tree, the tables and
 -- those of the right sides of its outer joins, as words. Assumes nothing.
-use mathlib.Core.Bool.{Bool, true, false, not, _&&_}
+use mathlib.Core.Bool.{Bool, not, _&&_}
 use mathlib.Core.List.{List, map}
 use Prim.Native.Nat.{ℕ}
 use lib.Bits.{bitAnd, bitOr}

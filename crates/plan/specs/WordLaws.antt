@@ -1,29 +1,29 @@
 -- Laws of words: the bits of a choice, of a union and of an intersection of words, and of a list's kept numbers; arrays of words.
 -- Assumes nothing.
-use mathlib.Core.Path.{_≡_, refl, sym, ap, ap₂, _∙_, subst}
-use mathlib.Core.Logic.{_≢_, _⊎_, inl, inr, ⊎-elim, by-cases, _↔_}
-use mathlib.Core.Bool.{Bool, true, false, not, _&&_, _||_}
+use mathlib.Core.Path.{_≡_, refl, sym, ap, _∙_, subst}
+use mathlib.Core.Logic.{_⊎_, inl, inr, ⊎-elim, by-cases}
+use mathlib.Core.Bool.{Bool, true, false}
 use mathlib.Core.List.{List, [], _∷_, _++_, map, map-append}
 use Prim.Native.Nat.{ℕ, zero, suc, _+_, _*_, _-_, _%_, _^_, _<_, _≤_}
 use native.Mathlib.Decide.{ℕ-discrete}
 use native.Mathlib.Numerals.{add-one}
 use native.Mathlib.Omega.{arith}
 use lib.Bits.{bitAnd, bitOr, or-zero-r}
-use lib.Dec.{T, eqb, leb, ltb, eqb→eq}
-use lib.ListN.{length, getD, set, take, length-map, length-set, List·getD-eq-default}
-use lib.Seq.{ext-getD, getD-set-same, getD-set-other, take-suc-set, take-all}
+use lib.Dec.{T, eqb, ltb, eqb→eq}
+use lib.ListN.{length, getD, set, take, length-map}
+use lib.Seq.{take-suc-set}
 use borrow.Author.Tests.{lt-ltb, le-ltb}
 use mir.Facts.{and-yes, yes-and, or-yes, yes-ltb, ltb-yes}
 use Rattle.cells.specs.Below.{at-below}
 use Rattle.cells.specs.Choice.{if_then_else_}
 use Rattle.rows.specs.Lists.{range, keep, has}
-use Rattle.rows.specs.ListLaws.{_isIn_, here, there, has-intro, has-elim, or-left, or-right, if-intro, if-elim, keep-elim, keep-intro, range-intro, range-elim, append-left, append-right, append-elim}
+use Rattle.rows.specs.ListLaws.{has-intro, has-elim, or-left, or-right, range-intro, range-elim}
 use Rattle.plan.specs.Bits.{hasBit}
 use Rattle.plan.specs.Steps.{bitsOf}
-use Rattle.plan.specs.BitLaws.{has-or, has-and, has-none, has-one, has-above, bit-elim, bit-intro, word-is, bits-append, same-test}
+use Rattle.plan.specs.BitLaws.{has-or, has-and, has-none, bits-append, same-test}
 use Rattle.plan.specs.SetLaws.{getD-range}
 use Rattle.plan.specs.BuiltLaws.{length-range}
-use Rattle.plan.specs.Words.{onlyIf, unionTo, everyBit, meetTo, wordTables, tableBits, wordsTo}
+use Rattle.plan.specs.Words.{onlyIf, unionTo, everyBit, meetTo, wordTables, tableBits}
 
 -- ---- the code's numbers
 

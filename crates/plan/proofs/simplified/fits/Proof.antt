@@ -1,5 +1,5 @@
 -- `plan::simplified::fits` meets its contract: both sides fit, or the left one does not. Assumes nothing.
-use mathlib.Core.Path.{_≡_, refl, sym, _∙_}
+use mathlib.Core.Path.{sym, _∙_}
 use Rattle.plan.specs.TreeWords.{simplifiedBits}
 use borrow.Author.Needs.{needs}
 use Rattle.plan.proofs.simplified.fits.Statement.{statement}

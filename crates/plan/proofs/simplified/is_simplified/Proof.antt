@@ -1,12 +1,12 @@
 -- `plan::simplified::is_simplified` meets its contract: the lines so far fit. Assumes nothing.
-use mathlib.Core.Path.{_≡_, refl, sym, ap, ap₂, _∙_}
-use Prim.Native.Nat.{ℕ, _≤_, _-_}
+use mathlib.Core.Path.{_≡_, refl, sym, ap, _∙_}
+use Prim.Native.Nat.{_≤_, _-_}
 use native.Mathlib.Omega.{arith}
 use lib.ListN.{length, drop, length-map}
 use Rattle.rows.specs.Lists.{all}
 use Rattle.plan.specs.Nodes.{joinTrees}
 use Rattle.plan.specs.Questions.{question8}
-use Rattle.plan.specs.Stored.{queryIn, joinIn}
+use Rattle.plan.specs.Stored.{queryIn}
 use Rattle.plan.specs.FoldWords.{join-count, join-at, tables-most}
 use Rattle.plan.specs.TreeWords.{rightWords, sidesWords, joinFits}
 use Rattle.plan.specs.TreeWordLaws.{fits-word, all-next, all-stops, all-ends, trees-few}

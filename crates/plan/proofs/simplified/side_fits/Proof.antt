@@ -1,8 +1,7 @@
 -- `plan::simplified::side_fits` meets its contract: a side that is blanked, or one that is not. Assumes nothing.
-use mathlib.Core.Path.{_≡_, refl, sym}
+use mathlib.Core.Path.{_≡_, refl}
 use mathlib.Core.Bool.{Bool, true, false, not}
 use Rattle.plan.specs.TreeWords.{sideFits}
-use borrow.Author.Needs.{needs}
 use Rattle.plan.proofs.simplified.side_fits.Statement.{statement}
 use Rattle.plan.proofs.simplified.side_fits.Tie as tie
 

@@ -1,11 +1,11 @@
 -- `plan::simplified::sides_of` meets its contract: the trees of the lines so far. Assumes nothing.
-use mathlib.Core.Path.{_≡_, refl, sym, ap, ap₂, _∙_}
-use Prim.Native.Nat.{ℕ, _≤_, _-_}
+use mathlib.Core.Path.{_≡_, refl, sym, ap, _∙_}
+use Prim.Native.Nat.{_≤_, _-_}
 use native.Mathlib.Omega.{arith}
 use lib.ListN.{length, take, length-map}
 use lib.Seq.{take-all}
 use Rattle.plan.specs.Nodes.{grown}
-use Rattle.plan.specs.Stored.{queryIn, joinIn}
+use Rattle.plan.specs.Stored.{queryIn}
 use Rattle.plan.specs.NodeWords.{table-count}
 use Rattle.plan.specs.FoldWords.{join-count, join-at}
 use Rattle.plan.specs.TreeWords.{sidesWords, treesFrom}
