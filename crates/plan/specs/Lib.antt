@@ -21,6 +21,7 @@ pub mod PairWords
 pub mod PairWordLaws
 pub mod StepWords
 pub mod StepLaws
+pub mod RowCounts
 pub mod NodeLaws
 pub mod StageLaws
 pub mod SetLaws

@@ -45,3 +45,11 @@ blankingWords s sets applied (suc n) = withBlanking (blankingWords s sets applie
 -- with best match, where there are more steps than those of the pairs
 unfoldable pub withBest : StepList → ℕ → StepList
 withBest s n = if eqb (s .count) n then s else pushed s (record { kind = 5; first = 0; second = 0; rows = 0; conditions = 0 })
+
+-- a step with the rows of its result
+unfoldable pub rowed : ℕ → Step → Step
+rowed n x = record { kind = x .kind; first = x .first; second = x .second; rows = n; conditions = x .conditions }
+
+-- the list with the rows of one step's result
+unfoldable pub withRows : StepList → ℕ → ℕ → StepList
+withRows s i n = record { steps = set (s .steps) i (rowed n (getD (s .steps) i zeroStep)); count = s .count }

@@ -1,0 +1,74 @@
+-- Laws of the rows in a plan's steps: the run fills them in, pair after pair. Assumes nothing.
+use mathlib.Core.Path.{_≡_, refl, sym, ap, _∙_}
+use mathlib.Core.List.{List, [], _∷_, _++_, map, zipWith, append-assoc, append-nil}
+use Prim.Native.Nat.{ℕ, suc, _+_, _-_, _<_}
+use native.Mathlib.Omega.{arith}
+use lib.ListN.{length, getD, set, replicate, length-append, length-set, List·getD-append}
+use lib.Seq.{set-append-left, append-snoc}
+use Rattle.plan.specs.Report.{Join, Query, joinOrder}
+use Rattle.plan.specs.Plan.{plannedJoins, blankings}
+use Rattle.plan.specs.Steps.{pairStep, blankingStep, bestMatchStep, zeroStep, stepsOf}
+use Rattle.plan.specs.PairWordLaws.{planned-count}
+use Rattle.plan.specs.StepWords.{listed, rowed, withRows}
+use Rattle.plan.specs.declared.step.Step.{Step}
+use Rattle.plan.specs.declared.steps.StepList.{StepList}
+
+-- a step of the first part of the list
+rows-listed : (Z W : List Step) (i n : ℕ) → i < length Z → withRows (listed (Z ++ W)) i n ≡ listed (set Z i (rowed n (getD Z i zeroStep)) ++ W)
+unfolding withRows listed
+rows-listed Z W i n h =
+    let a = rowed n (getD Z i zeroStep) in
+    let e : length (set Z i (rowed n (getD Z i zeroStep)) ++ W) ≡ length (Z ++ W) =
+    length-append (set Z i a) W ∙ ap (λ (k : ℕ). k + length W) (length-set Z i a) ∙ sym (length-append Z W) in
+    let b : i < length (Z ++ W) = omega (arith, length-append Z W) in
+    rw (
+      e,
+      List·getD-append (Z ++ W) (replicate (16 - length (Z ++ W)) zeroStep) zeroStep i b,
+      List·getD-append Z W zeroStep i h,
+      set-append-left (Z ++ W) (replicate (16 - length (Z ++ W)) zeroStep) i (rowed n (getD Z i zeroStep)) b,
+      set-append-left Z W i (rowed n (getD Z i zeroStep)) h,
+    )
+
+-- the rows of the pair after those that have theirs
+zip-rows : (js : List Join) (ns : List ℕ) (n : ℕ) (zs : List ℕ) → length ns < length js
+    → set (zipWith pairStep js (ns ++ 0 ∷ zs)) (length ns) (rowed n (getD (zipWith pairStep js (ns ++ 0 ∷ zs)) (length ns) zeroStep)) ≡ zipWith pairStep js (ns ++ n ∷ zs)
+unfolding zipWith pairStep rowed
+zip-rows [] ns n zs h = absurd (omega arith)
+zip-rows (j ∷ js) [] n zs h = refl
+zip-rows (j ∷ js) (m ∷ ns) n zs h = ap (λ (l : List Step). pairStep j m ∷ l) (zip-rows js ns n zs (omega arith))
+
+zip-count : (js : List Join) (ns : List ℕ) (zs : List ℕ) → length ns < length js → length ns < length (zipWith pairStep js (ns ++ 0 ∷ zs))
+unfolding zipWith
+zip-count [] ns zs h = absurd (omega arith)
+zip-count (j ∷ js) [] zs h = omega arith
+zip-count (j ∷ js) (m ∷ ns) zs h = let k = zip-count js ns zs (omega arith) in omega arith
+
+-- the plan with the rows of the first pairs, 0 for the others
+unfoldable pub countedSteps : Query → List ℕ → StepList
+countedSteps q ns = listed (stepsOf q (ns ++ replicate (length (joinOrder q) - length ns) 0))
+
+pub no-rows : (q : Query) → listed (stepsOf q (replicate (length (joinOrder q)) 0)) ≡ countedSteps q []
+unfolding countedSteps
+no-rows q = let e : length (joinOrder q) ≡ length (joinOrder q) - 0 = omega arith in ap (λ (k : ℕ). listed (stepsOf q (replicate k 0))) e
+
+pub all-rows : (q : Query) (ns : List ℕ) → length ns ≡ length (joinOrder q) → countedSteps q ns ≡ listed (stepsOf q ns)
+unfolding countedSteps
+all-rows q ns e =
+    let z : length (joinOrder q) - length ns ≡ 0 = omega arith in
+    rw z (ap (λ (l : List ℕ). listed (stepsOf q l)) (append-nil ns))
+
+pub rows-next : (q : Query) (ns : List ℕ) (n : ℕ) → length ns < length (joinOrder q)
+    → withRows (countedSteps q ns) (length ns) n ≡ countedSteps q (ns ++ (n ∷ []))
+unfolding countedSteps stepsOf
+rows-next q ns n h =
+    let k : length (joinOrder q) - length ns ≡ suc (length (joinOrder q) - length (ns ++ (n ∷ []))) = omega (arith, length-append ns (n ∷ [])) in
+    let zs : List ℕ = replicate (length (joinOrder q) - length (ns ++ (n ∷ []))) 0 in
+    let l : length ns < length (plannedJoins q) = omega (arith, planned-count q) in
+    rw (
+      k,
+      append-snoc ns n (replicate (length (joinOrder q) - length (ns ++ (n ∷ []))) 0),
+      append-assoc (zipWith pairStep (plannedJoins q) (ns ++ 0 ∷ replicate (length (joinOrder q) - length (ns ++ (n ∷ []))) 0)) (map blankingStep (blankings q)) (bestMatchStep (blankings q)),
+    )
+    (rows-listed (zipWith pairStep (plannedJoins q) (ns ++ 0 ∷ zs)) (map blankingStep (blankings q) ++ bestMatchStep (blankings q)) (length ns) n (zip-count (plannedJoins q) ns zs l)
+    ∙ ap (λ (z : List Step). listed (z ++ (map blankingStep (blankings q) ++ bestMatchStep (blankings q)))) (zip-rows (plannedJoins q) ns n zs l)
+    ∙ ap listed (sym (append-assoc (zipWith pairStep (plannedJoins q) (ns ++ n ∷ zs)) (map blankingStep (blankings q)) (bestMatchStep (blankings q)))))
