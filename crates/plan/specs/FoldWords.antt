@@ -76,7 +76,8 @@ module _ (q : Query) (ps : List Pair) (small : tableCount q ≤ 8) (few : length
       → afterWords nodes sets b ≡ setWords (setsBy q (nodesOf q ps) (take (i + 1) js) (emptySets q))
   sets-turn js i j nodes sets b h at e f g =
       rw (e, f, g, take-next js i j h, at, sets-last q (nodesOf q ps) (take i js) j (emptySets q))
-      (after-words q (nodesOf q ps) nodes-most (nodes-below q ps) small j (setsTo (take i js)) (proper-by q (nodesOf q ps) (take i js) (emptySets q) (proper-empty q)))
+      (after-words q (nodesOf q ps) nodes-most (nodes-below q ps) small j (setsTo (take i js))
+      (proper-by q (nodesOf q ps) (take i js) (emptySets q) (proper-empty q)))
 
 -- ---- the sets at first, and those of the J lines
 

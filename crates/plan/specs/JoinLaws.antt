@@ -16,7 +16,8 @@ use Rattle.cells.specs.Condition.{namesOf, sideNames}
 use Rattle.cells.specs.declared.condition.Condition.{Condition}
 use Rattle.cells.specs.declared.condition.Side.the-variants.{Column, Constant}
 use Rattle.rows.specs.Lists.{range, keep, has}
-use Rattle.rows.specs.ListLaws.{_isIn_, here, there, decT, has-intro, has-elim, keep-elim, keep-intro, range-intro, range-elim, flatMap-intro, flatMap-elim}
+use Rattle.rows.specs.ListLaws.{_isIn_, here, there, decT, has-intro, has-elim}
+use Rattle.rows.specs.ListLaws.{keep-elim, keep-intro, range-intro, range-elim, flatMap-intro, flatMap-elim}
 use Rattle.plan.specs.Report.{Query, conditionNumbers, conditionAt, noCondition, namedBy}
 use Rattle.plan.specs.Stored.{queryIn}
 use Rattle.plan.specs.Bits.{hasBit}
@@ -47,7 +48,8 @@ module _ (q : StoredQuery) (h : q .«condition_count» ≤ length (q .conditions
 pub names-column : (c : Condition) (u v : ℕ) → c .side ≡ Column u v → nameBits c ≡ bitOr (tableBits (c .table)) (tableBits u)
 unfolding nameBits namesOf sideNames tableBits wordTables
 names-column c u v e =
-    rw e (ap bitsOf (keep-append (λ (t : ℕ). ltb t 64) (c .table ∷ []) (u ∷ [])) ∙ bits-append (keep (λ t. ltb t 64) (c .table ∷ [])) (keep (λ t. ltb t 64) (u ∷ [])))
+    rw e (ap bitsOf (keep-append (λ (t : ℕ). ltb t 64) (c .table ∷ []) (u ∷ [])) ∙ bits-append (keep (λ t. ltb t 64) (c .table ∷ []))
+    (keep (λ t. ltb t 64) (u ∷ [])))
 
 pub names-constant : (c : Condition) → (z : ℤ) → c .side ≡ Constant z → nameBits c ≡ tableBits (c .table)
 unfolding nameBits namesOf sideNames tableBits

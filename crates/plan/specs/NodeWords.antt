@@ -44,7 +44,8 @@ pub take-next : {A : Type 0} (l : List A) (i : ℕ) (d : A) → i < length l →
 take-next l i d h = rw (add-one i) (take-suc l i d h)
 
 -- an element of the list that is kept of an array
-pub kept-at : {A B : Type 0} (f : A → B) (n : ℕ) (l : List A) (i : ℕ) (d : A) (e : B) → i < n → n ≤ length l → getD (map f (take n l)) i e ≡ f (getD l i d)
+pub kept-at : {A B : Type 0} (f : A → B) (n : ℕ) (l : List A) (i : ℕ) (d : A) (e : B) → i < n → n ≤ length l → getD (map f (take n l)) i e ≡ f
+    (getD l i d)
 kept-at f n l i d e h k =
     getD-within (map f (take n l)) i e (f d) (omega (arith, length-map (take n l) f, length-take-le n l k))
     ∙ map-at f (take n l) i d ∙ ap f (getD-take n l i d h)
@@ -63,7 +64,8 @@ map-next f l m i d h k e =
 -- ---- the pairs that are held
 
 -- the sides of J lines
-pub lines-held : (n : ℕ) (l : List StoredJoin) → map pairIn (take n (map linePair l)) ≡ map (λ (j : Join). (j .left, j .right)) (map joinIn (take n l))
+pub lines-held : (n : ℕ) (l : List StoredJoin) → map pairIn (take n (map linePair l)) ≡ map (λ (j : Join). (j .left, j .right))
+    (map joinIn (take n l))
 unfolding pairIn linePair joinIn
 lines-held zero l = refl
 lines-held (suc n) [] = refl
@@ -75,7 +77,8 @@ module _ (q : StoredQuery) where
   unfolding joinOrder queryIn orderOr
   order-none e = rw e
 
-  pub order-some : (0 < q .«pair_count») → q .«pair_count» ≤ length (q .pairs) → map pairIn (take (q .«pair_count») (q .pairs)) ≡ joinOrder (queryIn q)
+  pub order-some : (0 < q .«pair_count») → q .«pair_count» ≤ length (q .pairs) → map pairIn (take (q .«pair_count») (q .pairs)) ≡ joinOrder
+      (queryIn q)
   unfolding joinOrder queryIn orderOr
   order-some h k = some (q .«pair_count») (q .pairs) (joinPairs (queryIn q)) h k
     where
@@ -89,7 +92,8 @@ module _ (o : Order) (ps : List Pair) (is : OrderIs o ps) where
   pub order-count : length ps ≡ o .count
   unfolding orderIn
   order-count =
-      sym (ap length (is .pairs)) ∙ length-map (take (o .count) (o .pairs)) pairIn ∙ length-take-le (o .count) (o .pairs) (omega (arith, is .room, is .full))
+      sym (ap length (is .pairs)) ∙ length-map (take (o .count) (o .pairs)) pairIn ∙ length-take-le (o .count) (o .pairs)
+      (omega (arith, is .room, is .full))
 
   pub order-at : (i : ℕ) (p d : StoredPair) → i < o .count → getD (o .pairs) i d ≡ p → getD ps i (pairIn p) ≡ pairIn p
   unfolding orderIn
@@ -117,7 +121,8 @@ grow-words {A} g d l x room = ext-getD 0 (set (map old (range 0 15)) (length l) 
         (λ h. let b : length l ≤ i = ltb-no (not-T (ltb i (length l)) h) in
         List·getD-eq-default (l ++ (x ∷ [])) d (omega (arith, length-append l (x ∷ []))) ∙ sym (List·getD-eq-default l d b))
 
-    each : (i : ℕ) → i < length (set (map old (range 0 15)) (length l) (bitsOf (g x))) → getD (set (map old (range 0 15)) (length l) (bitsOf (g x))) i 0 ≡ getD (map new (range 0 15)) i 0
+    each : (i : ℕ) → i < length (set (map old (range 0 15)) (length l) (bitsOf (g x))) → getD
+        (set (map old (range 0 15)) (length l) (bitsOf (g x))) i 0 ≡ getD (map new (range 0 15)) i 0
     each i h =
         let b : i < 15 = omega (arith, length-set (map old (range 0 15)) (length l) (bitsOf (g x)), tab-length old 15) in
         by-cases (ℕ-discrete i (length l))
@@ -126,7 +131,8 @@ grow-words {A} g d l x room = ext-getD 0 (set (map old (range 0 15)) (length l) 
         (λ e. getD-set-other (map old (range 0 15)) (length l) i (bitsOf (g x)) 0 e ∙ tab-at old 15 i 0 b
         ∙ sym (tab-at new 15 i 0 b ∙ ap (λ (y : A). bitsOf (g y)) (at-old i e)))
 
-pub node-next : (nodes : List (List ℕ)) (x : List ℕ) → length nodes < 15 → set (nodeWords nodes) (length nodes) (bitsOf x) ≡ nodeWords (nodes ++ (x ∷ []))
+pub node-next : (nodes : List (List ℕ)) (x : List ℕ) → length nodes < 15 → set (nodeWords nodes) (length nodes) (bitsOf x) ≡ nodeWords
+    (nodes ++ (x ∷ []))
 unfolding nodeWords tablesAt
 node-next nodes x h = grow-words (λ (l : List ℕ). l) [] nodes x h
 
@@ -158,7 +164,8 @@ module _ (n : ℕ) (ps : List Pair) where
 
   -- a pair more
   pair-next : (p : Pair) → n + length ps < 15
-      → set (nodeWords (nodesFrom n ps)) (n + length ps) (bitOr (getD (nodeWords (nodesFrom n ps)) (p .0) 0) (getD (nodeWords (nodesFrom n ps)) (p .1) 0))
+      → set (nodeWords (nodesFrom n ps)) (n + length ps)
+      (bitOr (getD (nodeWords (nodesFrom n ps)) (p .0) 0) (getD (nodeWords (nodesFrom n ps)) (p .1) 0))
       ≡ nodeWords (nodesFrom n (ps ++ (p ∷ [])))
   unfolding nodesFrom tablesOfPair
   pair-next p h =
@@ -182,6 +189,7 @@ node-turn n i pairs p nodes a b h k at e f g =
     let l : length (map pairIn (take i pairs)) ≡ i = length-map (take i pairs) pairIn ∙ length-take-le i pairs (omega arith) in
     rw (f, g, e, take-next pairs i p h, at p, map-append pairIn (take i pairs) (p ∷ []))
     (subst (λ (m : ℕ). set (nodeWords (nodesFrom n (map pairIn (take i pairs)))) (n + m)
-    (bitOr (getD (nodeWords (nodesFrom n (map pairIn (take i pairs)))) (p .left) 0) (getD (nodeWords (nodesFrom n (map pairIn (take i pairs)))) (p .right) 0))
+    (bitOr (getD (nodeWords (nodesFrom n (map pairIn (take i pairs)))) (p .left) 0)
+    (getD (nodeWords (nodesFrom n (map pairIn (take i pairs)))) (p .right) 0))
     ≡ nodeWords (nodesFrom n (map pairIn (take i pairs) ++ (pairIn p ∷ [])))) l
     (pair-next n (map pairIn (take i pairs)) (pairIn p) (omega arith)))

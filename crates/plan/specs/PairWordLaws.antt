@@ -29,7 +29,8 @@ use Rattle.plan.specs.WordLaws.{or-elim, or-intro, and-elim, and-intro, 
 use Rattle.plan.specs.JoinLaws.{condition-elim, condition-intro, named-within}
 use Rattle.plan.specs.SetWords.{set-word, node-word, number-elim}
 use Rattle.plan.specs.FoldWords.{nodes-below, nodes-most, blanking-proper}
-use Rattle.plan.specs.PairWords.{commonBits, betweenBits, crossesBits, crossingBits, withinBits, usableWord, usableBits, usableIn, fitsBits, pairFits, pairedBits, plannedBits}
+use Rattle.plan.specs.PairWords.{commonBits, betweenBits, crossesBits, crossingBits, withinBits, usableWord}
+use Rattle.plan.specs.PairWords.{usableBits, usableIn, fitsBits, pairFits, pairedBits, plannedBits}
 
 -- ---- the two kinds of conditions
 
@@ -64,7 +65,8 @@ module _ (q : Query) (S : Sets) (small : length S ≤ 8) (numbers : length (q .c
     common-elim k h = all-intro (λ (t : ℕ). has (setOf S t) k) ts (λ t m.
         let x : T (hasBit (everyUnless (hasBit (bitsOf ts) t) (getD (setWords S) t 0)) k) =
         meet-elim (λ (t : ℕ). everyUnless (hasBit (bitsOf ts) t) (getD (setWords S) t 0)) 8 k h t (below t m) in
-        has-intro (bit-elim (setOf S t) k (subst (λ (w : ℕ). T (hasBit w k)) (set-word S small t) (chosen (hasBit (bitsOf ts) t) (bit-intro m) (getD (setWords S) t 0) x))))
+        has-intro (bit-elim (setOf S t) k
+        (subst (λ (w : ℕ). T (hasBit w k)) (set-word S small t) (chosen (hasBit (bitsOf ts) t) (bit-intro m) (getD (setWords S) t 0) x))))
       where
         chosen : (b : Bool) → T b → (w : ℕ) → T (hasBit (everyUnless b w) k) → T (hasBit w k)
         chosen true y w x = x
@@ -73,7 +75,8 @@ module _ (q : Query) (S : Sets) (small : length S ≤ 8) (numbers : length (q .c
     unfolding commonBits inEvery everyUnless
     common-intro k l h = meet-intro (λ (t : ℕ). everyUnless (hasBit (bitsOf ts) t) (getD (setWords S) t 0)) 8 k l
         (λ t b. choose (hasBit (bitsOf ts) t) (getD (setWords S) t 0) (λ y.
-        subst (λ (w : ℕ). T (hasBit w k)) (sym (set-word S small t)) (bit-intro (has-elim (setOf S t) k (all-elim (λ (t : ℕ). has (setOf S t) k) ts h t (bit-elim ts t y))))))
+        subst (λ (w : ℕ). T (hasBit w k)) (sym (set-word S small t))
+        (bit-intro (has-elim (setOf S t) k (all-elim (λ (t : ℕ). has (setOf S t) k) ts h t (bit-elim ts t y))))))
       where
         choose : (b : Bool) (w : ℕ) → (T b → T (hasBit w k)) → T (hasBit (everyUnless b w) k)
         choose true w f = f tt
@@ -84,7 +87,8 @@ module _ (q : Query) (S : Sets) (small : length S ≤ 8) (numbers : length (q .c
         → withinBits (bitsOf C) (commonBits (setWords S) (bitsOf ts)) ≡ all (inEvery S ts) C
     unfolding withinBits
     within-word C n = same-test (eqb (bitAnd (bitsOf C) m) (bitsOf C)) (all (inEvery S ts) C)
-        (λ h. all-intro (inEvery S ts) C (λ k i. common-elim k (and-elim (bitsOf C) m k (subst (λ (w : ℕ). T (hasBit w k)) (sym (eqb-yes h)) (bit-intro i)) .1)))
+        (λ h. all-intro (inEvery S ts) C
+        (λ k i. common-elim k (and-elim (bitsOf C) m k (subst (λ (w : ℕ). T (hasBit w k)) (sym (eqb-yes h)) (bit-intro i)) .1)))
         (λ h. yes-eqb (same-bits (bitAnd (bitsOf C) m) (bitsOf C) (λ k. (
           λ x. and-elim (bitsOf C) m k x .0,
           λ x. let i : k isIn C = bit-elim C k x in
@@ -98,7 +102,9 @@ module _ (q : Query) (S : Sets) (small : length S ≤ 8) (numbers : length (q .c
   module _ (s l : List ℕ) (bs : (t : ℕ) → t isIn s → t < 8) (bl : (t : ℕ) → t isIn l → t < 8) where
     usable-word : usableWord q (setWords S) (bitsOf s) (bitsOf l) ≡ bitsOf (usable q S s l)
     unfolding usableWord usable crossingBits
-    usable-word = word-is (bitAnd (crossingBits q (bitsOf s) (bitsOf l)) (bitOr (commonBits (setWords S) (bitsOf s)) (commonBits (setWords S) (bitsOf l)))) (usable q S s l) (λ k. (into k, out k))
+    usable-word = word-is
+        (bitAnd (crossingBits q (bitsOf s) (bitsOf l)) (bitOr (commonBits (setWords S) (bitsOf s)) (commonBits (setWords S) (bitsOf l))))
+        (usable q S s l) (λ k. (into k, out k))
       where
         p : ℕ → Bool
         p k = crosses (conditionAt q k) s l && (inEvery S s k || inEvery S l k)
@@ -106,15 +112,21 @@ module _ (q : Query) (S : Sets) (small : length S ≤ 8) (numbers : length (q .c
         r : ℕ → Bool
         r k = crossesBits (conditionAt q k) (bitsOf s) (bitsOf l)
 
-        into : (k : ℕ) → T (hasBit (bitAnd (crossingBits q (bitsOf s) (bitsOf l)) (bitOr (commonBits (setWords S) (bitsOf s)) (commonBits (setWords S) (bitsOf l)))) k) → k isIn keep p (conditionNumbers q)
+        into : (k : ℕ) → T (hasBit
+            (bitAnd (crossingBits q (bitsOf s) (bitsOf l)) (bitOr (commonBits (setWords S) (bitsOf s)) (commonBits (setWords S) (bitsOf l)))) k)
+            → k isIn keep p (conditionNumbers q)
         into k h =
-            let (a, b) = and-elim (crossingBits q (bitsOf s) (bitsOf l)) (bitOr (commonBits (setWords S) (bitsOf s)) (commonBits (setWords S) (bitsOf l))) k h in
+            let (a, b) = and-elim (crossingBits q (bitsOf s) (bitsOf l))
+            (bitOr (commonBits (setWords S) (bitsOf s)) (commonBits (setWords S) (bitsOf l))) k h in
             let (i, c) = keep-elim r (conditionNumbers q) (bit-elim (keep r (conditionNumbers q)) k a) in
             keep-intro p i (yes-and (crosses (conditionAt q k) s l) (inEvery S s k || inEvery S l k) (subst T (crosses-word (conditionAt q k) s l) c)
-            (⊎-elim (λ x. or-left (inEvery S s k) (inEvery S l k) (common-elim s bs k x)) (λ x. or-right (inEvery S s k) (inEvery S l k) (common-elim l bl k x))
+            (⊎-elim (λ x. or-left (inEvery S s k) (inEvery S l k) (common-elim s bs k x))
+            (λ x. or-right (inEvery S s k) (inEvery S l k) (common-elim l bl k x))
             (or-elim (commonBits (setWords S) (bitsOf s)) (commonBits (setWords S) (bitsOf l)) k b)))
 
-        out : (k : ℕ) → k isIn keep p (conditionNumbers q) → T (hasBit (bitAnd (crossingBits q (bitsOf s) (bitsOf l)) (bitOr (commonBits (setWords S) (bitsOf s)) (commonBits (setWords S) (bitsOf l)))) k)
+        out : (k : ℕ) → k isIn keep p (conditionNumbers q) → T
+            (hasBit (bitAnd (crossingBits q (bitsOf s) (bitsOf l))
+            (bitOr (commonBits (setWords S) (bitsOf s)) (commonBits (setWords S) (bitsOf l)))) k)
         out k m =
             let (i, c) = keep-elim p (conditionNumbers q) m in
             let (x, y) = and-yes (crosses (conditionAt q k) s l) (inEvery S s k || inEvery S l k) c in
@@ -122,7 +134,8 @@ module _ (q : Query) (S : Sets) (small : length S ≤ 8) (numbers : length (q .c
             and-intro (crossingBits q (bitsOf s) (bitsOf l)) (bitOr (commonBits (setWords S) (bitsOf s)) (commonBits (setWords S) (bitsOf l))) k
             (bit-intro (keep-intro r i (subst T (sym (crosses-word (conditionAt q k) s l)) x)))
             (or-intro (commonBits (setWords S) (bitsOf s)) (commonBits (setWords S) (bitsOf l)) k
-            (⊎-elim (λ z. inl (common-intro s bs k (omega arith) z)) (λ z. inr (common-intro l bl k (omega arith) z)) (or-yes (inEvery S s k) (inEvery S l k) y)))
+            (⊎-elim (λ z. inl (common-intro s bs k (omega arith) z)) (λ z. inr (common-intro l bl k (omega arith) z))
+            (or-yes (inEvery S s k) (inEvery S l k) y)))
 
 -- a usable condition is one that there is
 usable-numbered : (q : Query) (S : Sets) (s l : List ℕ) (k : ℕ) → k isIn usable q S s l → k isIn conditionNumbers q
@@ -147,7 +160,8 @@ module _ (q : Query) (small : tableCount q ≤ 8) (numbers : length (q .conditio
   unfolding orderNodes
   nodes-few = nodes-most q (joinOrder q) small few
 
-  pub usable-in : (sets nodes : List ℕ) (p : Pair) → sets ≡ setWords (blankingSets q) → nodes ≡ nodeWords (orderNodes q) → usableBits q sets nodes p ≡ usableIn q p
+  pub usable-in : (sets nodes : List ℕ) (p : Pair) → sets ≡ setWords (blankingSets q) → nodes ≡ nodeWords (orderNodes q) → usableBits q sets nodes p
+      ≡ usableIn q p
   unfolding usableBits usableIn usableAt allIn
   usable-in sets nodes p e f =
       rw (
@@ -155,7 +169,8 @@ module _ (q : Query) (small : tableCount q ≤ 8) (numbers : length (q .conditio
         f,
         node-word (orderNodes q) nodes-few (p .0),
         node-word (orderNodes q) nodes-few (p .1),
-        usable-word q (blankingSets q) sets-few numbers (tablesAt (orderNodes q) (p .0)) (tablesAt (orderNodes q) (p .1)) (under-below (p .0)) (under-below (p .1)),
+        usable-word q (blankingSets q) sets-few numbers (tablesAt (orderNodes q) (p .0)) (tablesAt (orderNodes q) (p .1)) (under-below (p .0))
+            (under-below (p .1)),
         within-word q (blankingSets q) sets-few numbers (tablesAt (orderNodes q) (p .0)) (under-below (p .0)) (usableAt q p) (usable-in-numbers q p),
         within-word q (blankingSets q) sets-few numbers (tablesAt (orderNodes q) (p .1)) (under-below (p .1)) (usableAt q p) (usable-in-numbers q p),
       )

@@ -31,7 +31,8 @@ rows-listed Z W i n h =
 
 -- the rows of the pair after those that have theirs
 zip-rows : (js : List Join) (ns : List ℕ) (n : ℕ) (zs : List ℕ) → length ns < length js
-    → set (zipWith pairStep js (ns ++ 0 ∷ zs)) (length ns) (rowed n (getD (zipWith pairStep js (ns ++ 0 ∷ zs)) (length ns) zeroStep)) ≡ zipWith pairStep js (ns ++ n ∷ zs)
+    → set (zipWith pairStep js (ns ++ 0 ∷ zs)) (length ns) (rowed n (getD (zipWith pairStep js (ns ++ 0 ∷ zs)) (length ns) zeroStep))
+    ≡ zipWith pairStep js (ns ++ n ∷ zs)
 unfolding zipWith pairStep rowed
 zip-rows [] ns n zs h = absurd (omega arith)
 zip-rows (j ∷ js) [] n zs h = refl
@@ -67,8 +68,11 @@ rows-next q ns n h =
     rw (
       k,
       append-snoc ns n (replicate (length (joinOrder q) - length (ns ++ (n ∷ []))) 0),
-      append-assoc (zipWith pairStep (plannedJoins q) (ns ++ 0 ∷ replicate (length (joinOrder q) - length (ns ++ (n ∷ []))) 0)) (map blankingStep (blankings q)) (bestMatchStep (blankings q)),
+      append-assoc (zipWith pairStep (plannedJoins q) (ns ++ 0 ∷ replicate (length (joinOrder q) - length (ns ++ (n ∷ []))) 0))
+          (map blankingStep (blankings q)) (bestMatchStep (blankings q)),
     )
-    (rows-listed (zipWith pairStep (plannedJoins q) (ns ++ 0 ∷ zs)) (map blankingStep (blankings q) ++ bestMatchStep (blankings q)) (length ns) n (zip-count (plannedJoins q) ns zs l)
+    (rows-listed (zipWith pairStep (plannedJoins q) (ns ++ 0 ∷ zs)) (map blankingStep (blankings q) ++ bestMatchStep (blankings q)) (length ns) n
+    (zip-count (plannedJoins q) ns zs l)
     ∙ ap (λ (z : List Step). listed (z ++ (map blankingStep (blankings q) ++ bestMatchStep (blankings q)))) (zip-rows (plannedJoins q) ns n zs l)
-    ∙ ap listed (sym (append-assoc (zipWith pairStep (plannedJoins q) (ns ++ n ∷ zs)) (map blankingStep (blankings q)) (bestMatchStep (blankings q)))))
+    ∙ ap listed (sym (append-assoc (zipWith pairStep (plannedJoins q) (ns ++ n ∷ zs)) (map blankingStep (blankings q))
+    (bestMatchStep (blankings q)))))

@@ -21,7 +21,8 @@ use Rattle.plan.specs.BuiltLaws.{length-range}
 use Rattle.plan.specs.Bits.{hasBit}
 use Rattle.plan.specs.Steps.{bitsOf}
 use Rattle.plan.specs.BitLaws.{has-bits, has-none, bit-elim, bit-intro, word-is, same-test}
-use Rattle.plan.specs.Words.{onlyIf, wordTables, wordsTo, setWords, nodeWords, conditionBits, joinBits, gatherBits, gainBits, takenWords, afterWords}
+use Rattle.plan.specs.Words.{onlyIf, wordTables, wordsTo, setWords, nodeWords}
+use Rattle.plan.specs.Words.{conditionBits, joinBits, gatherBits, gainBits, takenWords, afterWords}
 use Rattle.plan.specs.WordLaws.{or-elim, or-intro, and-elim, and-intro, only-elim, only-intro, union-elim, union-intro, tab-at, tab-length}
 use Rattle.plan.specs.JoinLaws.{condition-elim, condition-intro}
 
@@ -84,7 +85,8 @@ module _ (q : Query) where
   taken-numbered C S other own k m =
       keep-elim (λ (c : ℕ). has own c || has C c || any (λ u. has other u && has (setOf S u) c) (namedBy q C)) (conditionNumbers q) m .0
 
-  after-numbered : (left right : List ℕ) (j : Join) (S : Sets) → Proper q S → (t k : ℕ) → k isIn setAfter q left right j S t → k isIn conditionNumbers q
+  after-numbered : (left right : List ℕ) (j : Join) (S : Sets) → Proper q S → (t k : ℕ) → k isIn setAfter q left right j S t
+      → k isIn conditionNumbers q
   unfolding setAfter
   after-numbered left right j S p t k m = ⊎-elim (λ (b, x). taken-numbered (j .conditions) S right (setOf S t) k x)
       (λ (b, x). ⊎-elim (λ (c, y). taken-numbered (j .conditions) S left (setOf S t) k y) (λ (c, y). p .numbered t k y)
@@ -137,14 +139,17 @@ module _ (q : Query) where
         let b : u < length S = there-is u z in
         union-intro (λ (t : ℕ). onlyIf (hasBit (bitAnd names (bitsOf other)) t) (getD (setWords S) t 0)) 8 k u (omega arith)
         (only-intro (hasBit (bitAnd names (bitsOf other)) u) (getD (setWords S) u 0) k
-        (and-intro names (bitsOf other) u (bit-intro (keep-intro (λ (t : ℕ). ltb t 64) (flatMap-intro (λ (c : ℕ). namesOf (conditionAt q c)) e f) (yes-ltb {a = u} {b = 64} (omega arith)))) (bit-intro o))
+        (and-intro names (bitsOf other) u
+        (bit-intro (keep-intro (λ (t : ℕ). ltb t 64) (flatMap-intro (λ (c : ℕ). namesOf (conditionAt q c)) e f)
+        (yes-ltb {a = u} {b = 64} (omega arith)))) (bit-intro o))
         (subst (λ (w : ℕ). T (hasBit w k)) (sym (set-word S small u)) (bit-intro z)))
       where
         there-is : (u : ℕ) → k isIn setOf S u → u < length S
         there-is u z = by-cases (decT (ltb u (length S))) (λ l. ltb-yes l)
             (λ l. elim (subst (λ (s : List ℕ). k isIn s) (no-set S u (ltb-no (not-T (ltb u (length S)) l))) z) [ ])
 
-    pub taken-word : bitOr (bitsOf own) (bitOr (conditionBits q C) (gatherBits (setWords S) (bitAnd names (bitsOf other)))) ≡ bitsOf (taken q C S other own)
+    pub taken-word : bitOr (bitsOf own) (bitOr (conditionBits q C) (gatherBits (setWords S) (bitAnd names (bitsOf other)))) ≡ bitsOf
+        (taken q C S other own)
     taken-word = word-is (bitOr (bitsOf own) (bitOr (conditionBits q C) gather)) (taken q C S other own) (λ k. (
       λ t. ⊎-elim (λ x. let m : k isIn own = bit-elim own k x in taken-intro q C S other own k (fair k m) (inl m))
           (λ x. ⊎-elim
@@ -183,13 +188,15 @@ module _ (q : Query) where
     right = tablesAt nodes (j .right)
 
     abbrev gain : List ℕ → ℕ
-    gain other = bitOr (conditionBits q (j .conditions)) (gatherBits (setWords S) (bitAnd (bitsOf (wordTables (namedBy q (j .conditions)))) (bitsOf other)))
+    gain other = bitOr (conditionBits q (j .conditions))
+        (gatherBits (setWords S) (bitAnd (bitsOf (wordTables (namedBy q (j .conditions)))) (bitsOf other)))
 
     few-sets : length S ≤ 8
     few-sets = omega (arith, p .each)
 
     -- a table of the query
-    of-table : (t : ℕ) → bitOr (bitsOf (setOf S t)) (gainBits (onlyIf (blanksLeft (j .kind)) (bitsOf left)) (onlyIf (blanksRight (j .kind)) (bitsOf right)) (gain right) (gain left) t)
+    of-table : (t : ℕ) → bitOr (bitsOf (setOf S t))
+        (gainBits (onlyIf (blanksLeft (j .kind)) (bitsOf left)) (onlyIf (blanksRight (j .kind)) (bitsOf right)) (gain right) (gain left) t)
         ≡ bitsOf (setAfter q left right j S t)
     unfolding gainBits setAfter
     of-table t = rw (test-word (blanksLeft (j .kind)) left t, test-word (blanksRight (j .kind)) right t)
@@ -214,7 +221,9 @@ module _ (q : Query) where
     and-false false = refl
 
     of-none : (t : ℕ) → tableCount q ≤ t
-        → bitOr (bitsOf (setOf S t)) (gainBits (onlyIf (blanksLeft (j .kind)) (bitsOf left)) (onlyIf (blanksRight (j .kind)) (bitsOf right)) (gain right) (gain left) t) ≡ bitsOf (setOf S t)
+        → bitOr (bitsOf (setOf S t))
+        (gainBits (onlyIf (blanksLeft (j .kind)) (bitsOf left)) (onlyIf (blanksRight (j .kind)) (bitsOf right)) (gain right) (gain left) t) ≡ bitsOf
+        (setOf S t)
     unfolding gainBits
     of-none t h =
         rw (
@@ -229,15 +238,21 @@ module _ (q : Query) where
     pub after-words : afterWords (nodeWords nodes) (setWords S) (joinBits q j) ≡ setWords (setsAfter q nodes j S)
     unfolding afterWords takenWords joinBits setWords wordsTo
     after-words = tab-same
-        (λ t. bitOr (getD (setWords S) t 0) (gainBits (onlyIf (blanksLeft (j .kind)) (getD (nodeWords nodes) (j .left) 0)) (onlyIf (blanksRight (j .kind)) (getD (nodeWords nodes) (j .right) 0))
-        (bitOr (conditionBits q (j .conditions)) (gatherBits (setWords S) (bitAnd (bitsOf (wordTables (namedBy q (j .conditions)))) (getD (nodeWords nodes) (j .right) 0))))
-        (bitOr (conditionBits q (j .conditions)) (gatherBits (setWords S) (bitAnd (bitsOf (wordTables (namedBy q (j .conditions)))) (getD (nodeWords nodes) (j .left) 0)))) t))
+        (λ t. bitOr (getD (setWords S) t 0)
+        (gainBits (onlyIf (blanksLeft (j .kind)) (getD (nodeWords nodes) (j .left) 0))
+        (onlyIf (blanksRight (j .kind)) (getD (nodeWords nodes) (j .right) 0))
+        (bitOr (conditionBits q (j .conditions))
+        (gatherBits (setWords S) (bitAnd (bitsOf (wordTables (namedBy q (j .conditions)))) (getD (nodeWords nodes) (j .right) 0))))
+        (bitOr (conditionBits q (j .conditions))
+        (gatherBits (setWords S) (bitAnd (bitsOf (wordTables (namedBy q (j .conditions)))) (getD (nodeWords nodes) (j .left) 0)))) t))
         (λ t. bitsOf (setOf (setsAfter q nodes j S) t)) 0 8
         (λ t a b. rw (node-word nodes few (j .left), node-word nodes few (j .right), set-word S few-sets t) (each-table t))
       where
-        each-table : (t : ℕ) → bitOr (bitsOf (setOf S t)) (gainBits (onlyIf (blanksLeft (j .kind)) (bitsOf left)) (onlyIf (blanksRight (j .kind)) (bitsOf right)) (gain right) (gain left) t)
+        each-table : (t : ℕ) → bitOr (bitsOf (setOf S t))
+            (gainBits (onlyIf (blanksLeft (j .kind)) (bitsOf left)) (onlyIf (blanksRight (j .kind)) (bitsOf right)) (gain right) (gain left) t)
             ≡ bitsOf (setOf (setsAfter q nodes j S) t)
         each-table t = by-cases (decT (ltb t (tableCount q)))
             (λ l. of-table t ∙ sym (ap bitsOf (set-after q nodes j S t (ltb-yes l))))
             (λ l. let h : tableCount q ≤ t = ltb-no (not-T (ltb t (tableCount q)) l) in
-            of-none t h ∙ ap bitsOf (no-set S t (omega (arith, p .each)) ∙ sym (no-set (setsAfter q nodes j S) t (omega (arith, sets-count nodes j S)))))
+            of-none t h ∙ ap bitsOf
+            (no-set S t (omega (arith, p .each)) ∙ sym (no-set (setsAfter q nodes j S) t (omega (arith, sets-count nodes j S)))))

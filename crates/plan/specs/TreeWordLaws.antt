@@ -12,7 +12,8 @@ use lib.Seq.{drop-cons, length-take-le}
 use native.Mathlib.Numerals.{add-one}
 use mir.Facts.{ltb-yes, ltb-no, yes-ltb, eqb-yes, yes-eqb}
 use Rattle.rows.specs.Lists.{range, all, any, has}
-use Rattle.rows.specs.ListLaws.{_isIn_, here, there, decT, append-left, append-right, append-elim, any-elim, any-intro, has-elim, has-intro, keep-elim, keep-intro}
+use Rattle.rows.specs.ListLaws.{_isIn_, here, there, decT, append-left, append-right}
+use Rattle.rows.specs.ListLaws.{append-elim, any-elim, any-intro, has-elim, has-intro, keep-elim, keep-intro}
 use Rattle.rows.specs.Trees.{Tree, leaf, join, tablesUnder}
 use Rattle.rows.specs.declared.kind.Kind.{Kind}
 use Rattle.rows.specs.declared.kind.Kind.the-variants.{Inner, Outer, Product}
@@ -29,7 +30,8 @@ use Rattle.plan.specs.Words.{wordTables, wordsTo, joinBits}
 use Rattle.plan.specs.WordLaws.{and-elim, and-intro, none-elim, range-next, tab-at, tab-length}
 use Rattle.plan.specs.SetWords.{tab-same, words-at}
 use Rattle.plan.specs.NodeWords.{grow-words, grown-last, take-next}
-use Rattle.plan.specs.TreeWords.{leafTrees, underWords, rightWords, sidesWords, rightGain, withJoin, sideFits, simplifiedBits, treesFrom, joinFits}
+use Rattle.plan.specs.TreeWords.{leafTrees, underWords, rightWords, sidesWords, rightGain}
+use Rattle.plan.specs.TreeWords.{withJoin, sideFits, simplifiedBits, treesFrom, joinFits}
 use Rattle.plan.specs.declared.join.BitJoin.{BitJoin}
 use Rattle.plan.specs.declared.simplified.Sides.{Sides}
 
@@ -67,7 +69,8 @@ module _ (trees : List (Tree ℕ)) (few : length trees ≤ 15) where
   unfolding underWords wordsTo tablesUnder bitsOf
   under-word i = by-cases (decT (ltb i 15)) (λ l. tab-at (λ (k : ℕ). bitsOf (tablesUnder (treeAt trees k))) 15 i 1 (ltb-yes l))
       (λ l. let b : 15 ≤ i = ltb-no (not-T (ltb i 15) l) in
-      List·getD-eq-default (map (λ k. bitsOf (tablesUnder (treeAt trees k))) (range 0 15)) 1 (omega (arith, tab-length (λ (k : ℕ). bitsOf (tablesUnder (treeAt trees k))) 15))
+      List·getD-eq-default (map (λ k. bitsOf (tablesUnder (treeAt trees k))) (range 0 15)) 1
+      (omega (arith, tab-length (λ (k : ℕ). bitsOf (tablesUnder (treeAt trees k))) 15))
       ∙ sym (ap (λ (E : Tree ℕ). bitsOf (tablesUnder E)) (past i b)))
 
   pub right-word : (i : ℕ) → getD (rightWords trees) i 0 ≡ bitsOf (rightSides (treeAt trees i))
@@ -90,14 +93,17 @@ under-grown trees j h =
     (grow-words tablesUnder (leaf 0) trees (treeOf trees j) h)
 
 right-grown : (trees : List (Tree ℕ)) (j : Join) → length trees < 15
-    → set (rightWords trees) (length trees) (bitOr (bitsOf (rightSides (treeAt trees (j .left)))) (rightGain (j .kind) (bitsOf (tablesUnder (treeAt trees (j .right)))) (bitsOf (rightSides (treeAt trees (j .right))))))
+    → set (rightWords trees) (length trees)
+    (bitOr (bitsOf (rightSides (treeAt trees (j .left))))
+    (rightGain (j .kind) (bitsOf (tablesUnder (treeAt trees (j .right)))) (bitsOf (rightSides (treeAt trees (j .right))))))
     ≡ rightWords (trees ++ (treeOf trees j ∷ []))
 unfolding rightWords treeAt treeOf
 right-grown trees j h =
     rw (gain-word (j .kind) (j .conditions) (treeAt trees (j .left)) (treeAt trees (j .right)))
     (grow-words rightSides (leaf 0) trees (treeOf trees j) h)
 
-pub sides-next : (trees : List (Tree ℕ)) (j : Join) → length trees < 15 → withJoin (sidesWords trees) (length trees) j ≡ sidesWords (trees ++ (treeOf trees j ∷ []))
+pub sides-next : (trees : List (Tree ℕ)) (j : Join) → length trees < 15 → withJoin (sidesWords trees) (length trees) j ≡ sidesWords
+    (trees ++ (treeOf trees j ∷ []))
 unfolding withJoin sidesWords
 sides-next trees j h =
     let few : length trees ≤ 15 = omega arith in
@@ -107,11 +113,14 @@ sides-next trees j h =
     sides : List ℕ → List ℕ → Sides
     sides u r = record { under = u; rights = r }
 
-    under-next : set (underWords trees) (length trees) (bitOr (bitsOf (tablesUnder (treeAt trees (j .left)))) (bitsOf (tablesUnder (treeAt trees (j .right)))))
+    under-next : set (underWords trees) (length trees)
+        (bitOr (bitsOf (tablesUnder (treeAt trees (j .left)))) (bitsOf (tablesUnder (treeAt trees (j .right)))))
         ≡ underWords (trees ++ (treeOf trees j ∷ []))
     under-next = under-grown trees j h
 
-    right-next : set (rightWords trees) (length trees) (bitOr (bitsOf (rightSides (treeAt trees (j .left)))) (rightGain (j .kind) (bitsOf (tablesUnder (treeAt trees (j .right)))) (bitsOf (rightSides (treeAt trees (j .right))))))
+    right-next : set (rightWords trees) (length trees)
+        (bitOr (bitsOf (rightSides (treeAt trees (j .left))))
+        (rightGain (j .kind) (bitsOf (tablesUnder (treeAt trees (j .right)))) (bitsOf (rightSides (treeAt trees (j .right))))))
         ≡ rightWords (trees ++ (treeOf trees j ∷ []))
     right-next = right-grown trees j h
 
@@ -123,7 +132,8 @@ sides-turn n js i j s h at room e =
     let l : length (treesFrom n (take i js)) ≡ n + i =
     grown-length treeOf (leafTrees n) (take i js) ∙ ap₂ _+_ (leaf-count n) (length-take-le i js (omega arith)) in
     rw (e, take-next js i j h, at, grown-last treeOf (leafTrees n) (take i js) j)
-    (subst (λ (k : ℕ). withJoin (sidesWords (treesFrom n (take i js))) k j ≡ sidesWords (treesFrom n (take i js) ++ (treeOf (treesFrom n (take i js)) j ∷ []))) l
+    (subst (λ (k : ℕ). withJoin (sidesWords (treesFrom n (take i js))) k j ≡ sidesWords
+    (treesFrom n (take i js) ++ (treeOf (treesFrom n (take i js)) j ∷ []))) l
     (sides-next (treesFrom n (take i js)) j (omega arith)))
 
 pub trees-from : (q : Query) (n : ℕ) (js : List Join) → n ≡ tableCount q → js ≡ q .joins → treesFrom n js ≡ joinTrees q
@@ -132,11 +142,18 @@ trees-from q n js e f = rw (e, f)
 
 pub trees-few : (q : Query) → tableCount q ≤ 8 → length (q .joins) ≤ 7 → length (joinTrees q) ≤ 15
 unfolding joinTrees treesOf tableNumbers
-trees-few q h k = omega (arith, grown-length treeOf (map leaf (range 0 (tableCount q))) (q .joins), length-map {B = Tree ℕ} (range 0 (tableCount q)) leaf, length-range 0 (tableCount q))
+trees-few q h k = omega (
+  arith,
+  grown-length treeOf (map leaf (range 0 (tableCount q))) (q .joins),
+  length-map {B = Tree ℕ} (range 0 (tableCount q)) leaf,
+  length-range 0
+      (tableCount q),
+)
 
 -- ---- every table of a tree is below 64
 
-next-below : (trees : List (Tree ℕ)) (E : Tree ℕ) → ((i t : ℕ) → t isIn tablesUnder (getD trees i (leaf 0)) → t < 64) → ((t : ℕ) → t isIn tablesUnder E → t < 64)
+next-below : (trees : List (Tree ℕ)) (E : Tree ℕ) → ((i t : ℕ) → t isIn tablesUnder (getD trees i (leaf 0)) → t < 64) →
+    ((t : ℕ) → t isIn tablesUnder E → t < 64)
     → (i t : ℕ) → t isIn tablesUnder (getD (trees ++ (E ∷ [])) i (leaf 0)) → t < 64
 next-below [] E b h zero t m = h t m
 next-below [] E b h (suc i) t m = b 0 t m
@@ -148,7 +165,8 @@ grown-below : (trees : List (Tree ℕ)) (js : List Join) → ((i t : ℕ) → t 
 unfolding grown treeOf treeAt tablesUnder
 grown-below trees [] b i t m = b i t m
 grown-below trees (j ∷ js) b i t m = grown-below (trees ++ (treeOf trees j ∷ [])) js
-    (next-below trees (treeOf trees j) b (λ u k. ⊎-elim (b (j .left) u) (b (j .right) u) (append-elim (tablesUnder (treeAt trees (j .left))) k))) i t m
+    (next-below trees (treeOf trees j) b
+    (λ u k. ⊎-elim (b (j .left) u) (b (j .right) u) (append-elim (tablesUnder (treeAt trees (j .left))) k))) i t m
 
 leaf-below : (s n i t : ℕ) → s + n ≤ 64 → t isIn tablesUnder {K = ℕ} (getD (map leaf (range s n)) i (leaf 0)) → t < 64
 unfolding range tablesUnder
@@ -163,9 +181,12 @@ trees-below q h i t m = grown-below (map leaf (range 0 (tableCount q))) (q .join
 right-under : (E : Tree ℕ) (t : ℕ) → t isIn rightSides E → t isIn tablesUnder E
 unfolding rightSides tablesUnder
 right-under (leaf u) t m = elim m [ ]
-right-under (join Inner C A B) t m = ⊎-elim (λ x. append-left (tablesUnder B) (right-under A t x)) (λ x. append-right (tablesUnder A) (right-under B t x)) (append-elim (rightSides A) m)
-right-under (join Outer C A B) t m = ⊎-elim (λ x. append-left (tablesUnder B) (right-under A t x)) (λ x. append-right (tablesUnder A) x) (append-elim (rightSides A) m)
-right-under (join Product C A B) t m = ⊎-elim (λ x. append-left (tablesUnder B) (right-under A t x)) (λ x. append-right (tablesUnder A) (right-under B t x)) (append-elim (rightSides A) m)
+right-under (join Inner C A B) t m = ⊎-elim (λ x. append-left (tablesUnder B) (right-under A t x))
+    (λ x. append-right (tablesUnder A) (right-under B t x)) (append-elim (rightSides A) m)
+right-under (join Outer C A B) t m = ⊎-elim (λ x. append-left (tablesUnder B) (right-under A t x)) (λ x. append-right (tablesUnder A) x)
+    (append-elim (rightSides A) m)
+right-under (join Product C A B) t m = ⊎-elim (λ x. append-left (tablesUnder B) (right-under A t x))
+    (λ x. append-right (tablesUnder A) (right-under B t x)) (append-elim (rightSides A) m)
 
 -- ---- question 8 of one join
 
@@ -191,7 +212,8 @@ names-word named R below = same-test (not (eqb both 0)) (any (has R) named) ther
         let (u, m, b) = any-elim (has R) named h in
         let r : u isIn R = has-elim R u b in
         none-elim u (subst (λ (w : ℕ). T (hasBit w u)) (eqb-yes e)
-        (and-intro (bitsOf (wordTables named)) (bitsOf R) u (bit-intro (keep-intro (λ (t : ℕ). ltb t 64) m (yes-ltb {a = u} {b = 64} (below u r)))) (bit-intro r))))
+        (and-intro (bitsOf (wordTables named)) (bitsOf R) u (bit-intro (keep-intro (λ (t : ℕ). ltb t 64) m (yes-ltb {a = u} {b = 64} (below u r))))
+        (bit-intro r))))
 
 module _ (q : Query) (small : tableCount q ≤ 8) (few : length (joinTrees q) ≤ 15) where
   side-fits : (b : Bool) (C : List ℕ) (i : ℕ)
@@ -203,7 +225,8 @@ module _ (q : Query) (small : tableCount q ≤ 8) (few : length (joinTrees q) �
         (λ t m. trees-below q small i t (right-under (treeAt (joinTrees q) i) t m)),
   )
 
-  pub fits-word : (rights : List ℕ) (b : BitJoin) (j : Join) → rights ≡ rightWords (joinTrees q) → b ≡ joinBits q j → simplifiedBits rights b ≡ joinFits q j
+  pub fits-word : (rights : List ℕ) (b : BitJoin) (j : Join) → rights ≡ rightWords (joinTrees q) → b ≡ joinBits q j → simplifiedBits rights b
+      ≡ joinFits q j
   unfolding simplifiedBits joinBits joinFits
   fits-word rights b j e f =
       rw (e, f) (ap₂ _&&_ (side-fits (blanksLeft (j .kind)) (j .conditions) (j .left)) (side-fits (blanksRight (j .kind)) (j .conditions) (j .right)))

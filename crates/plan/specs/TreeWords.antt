@@ -43,7 +43,8 @@ rightGain Product under rights = rights
 unfoldable pub withJoin : Sides → ℕ → Join → Sides
 withJoin s at j = record {
   under = set (s .under) at (bitOr (getD (s .under) (j .left) 1) (getD (s .under) (j .right) 1));
-  rights = set (s .rights) at (bitOr (getD (s .rights) (j .left) 0) (rightGain (j .kind) (getD (s .under) (j .right) 1) (getD (s .rights) (j .right) 0)));
+  rights = set (s .rights) at
+      (bitOr (getD (s .rights) (j .left) 0) (rightGain (j .kind) (getD (s .under) (j .right) 1) (getD (s .rights) (j .right) 0)));
 }
 
 -- whether a side is not blanked, or none of these tables is named

@@ -106,7 +106,8 @@ range-next n = rw (add-one n) (range-suc 0 n ∙ ap (λ (k : ℕ). range 0 n ++ 
 
 -- whether a number is in a range, by its two bounds
 pub range-below : (s n k : ℕ) → k < s → has (range s n) k ≡ false
-range-below s n k h = same-test (has (range s n) k) false (λ t. let (a, b) = range-elim s n (has-elim (range s n) k t) in absurd (omega arith)) (λ t. absurd t)
+range-below s n k h = same-test (has (range s n) k) false (λ t. let (a, b) = range-elim s n (has-elim (range s n) k t) in absurd (omega arith))
+    (λ t. absurd t)
 
 pub range-has : (s n k : ℕ) → s ≤ k → has (range s n) k ≡ ltb k (s + n)
 range-has s n k h = same-test (has (range s n) k) (ltb k (s + n)) (λ t. yes-ltb (range-elim s n (has-elim (range s n) k t) .1))
@@ -138,7 +139,8 @@ keep-one p n = go (p n)
 
 -- one number more is looked at
 pub keep-next : (p : ℕ → Bool) (n : ℕ) → bitsOf (keep p (range 0 (n + 1))) ≡ bitOr (bitsOf (keep p (range 0 n))) (onlyIf (p n) (2 ^ n))
-keep-next p n = rw (range-next n, keep-append p (range 0 n) (n ∷ [])) (bits-append (keep p (range 0 n)) (keep p (n ∷ [])) ∙ ap (bitOr (bitsOf (keep p (range 0 n)))) (keep-one p n))
+keep-next p n = rw (range-next n, keep-append p (range 0 n) (n ∷ []))
+    (bits-append (keep p (range 0 n)) (keep p (n ∷ [])) ∙ ap (bitOr (bitsOf (keep p (range 0 n)))) (keep-one p n))
 
 -- one table's word
 pub table-bits : (t : ℕ) → t < 64 → tableBits t ≡ 2 ^ t
@@ -159,5 +161,6 @@ module _ {A : Type 0} (f : ℕ → A) where
   tab-at n i d h = getD-range f d 0 n i h ∙ ap f (omega arith)
 
   -- the next element is stored
-  pub tab-next : (l : List A) (i : ℕ) (a : A) → i < length l → take i l ≡ map f (range 0 i) → a ≡ f i → take (i + 1) (set l i a) ≡ map f (range 0 (i + 1))
+  pub tab-next : (l : List A) (i : ℕ) (a : A) → i < length l → take i l ≡ map f (range 0 i) → a ≡ f i → take (i + 1) (set l i a) ≡ map f
+      (range 0 (i + 1))
   tab-next l i a h e g = rw (range-next i, add-one i) (take-suc-set l i a h ∙ rw (e, g) (sym (map-append f (range 0 i) (i ∷ []))))

@@ -15,7 +15,8 @@ use Rattle.plan.proofs.simplified.is_simplified.Statement.{statement}
 use Rattle.plan.proofs.simplified.is_simplified.Tie as tie
 
 abbrev Inv-loop : tie.InvT-loop
-Inv-loop q rights n i₀ i = (i ≤ n) × (rights ≡ rightWords (joinTrees (queryIn q))) × (question8 (queryIn q) ≡ all (joinFits (queryIn q)) (drop i (queryIn q .joins)))
+Inv-loop q rights n i₀ i = (i ≤ n) × (rights ≡ rightWords (joinTrees (queryIn q))) ×
+    (question8 (queryIn q) ≡ all (joinFits (queryIn q)) (drop i (queryIn q .joins)))
 
 abbrev μ-loop : tie.MeasureT-loop
 μ-loop q rights n i₀ i = n - i
@@ -57,8 +58,13 @@ loop-again c =
     let jl : length (q .joins) ≡ 7 = sym (length-map (q .joins) _) ∙ s .good .0 .1 .1 .1 .1 .1 .0 .1 .0 .1 in
     let n : length (queryIn q .joins) ≡ q .«join_count» = join-count q (omega arith) in
     let t = ap (joinFits (queryIn q)) (join-at q (omega arith) (e .loop .i) _ _ (f .before .before .before .loop-test .taken) refl)
-    ∙ sym (f .fits2 .ensures ∙ fits-word (queryIn q) (omega (arith, tables-most q)) (trees-few (queryIn q) (omega (arith, tables-most q)) (omega arith)) _ _ _ (e .loop .inv .1) (f .before .line .ensures)) in
-    (search needs, e .loop .inv .1, e .loop .inv .2 ∙ all-next (joinFits (queryIn q)) (queryIn q .joins) (e .loop .i) _ (omega arith) (t ∙ c .if1 .taken))
+    ∙ sym (f .fits2 .ensures ∙ fits-word (queryIn q) (omega (arith, tables-most q))
+    (trees-few (queryIn q) (omega (arith, tables-most q)) (omega arith)) _ _ _ (e .loop .inv .1) (f .before .line .ensures)) in (
+      search needs,
+      e .loop .inv .1,
+      e .loop .inv .2 ∙ all-next (joinFits (queryIn q)) (queryIn q .joins) (e .loop .i) _ (omega arith)
+          (t ∙ c .if1 .taken),
+    )
 
 returns : tie.Need-returns Inv-loop μ-loop
 returns c =
@@ -69,7 +75,8 @@ returns c =
     let jl : length (q .joins) ≡ 7 = sym (length-map (q .joins) _) ∙ s .good .0 .1 .1 .1 .1 .1 .0 .1 .0 .1 in
     let n : length (queryIn q .joins) ≡ q .«join_count» = join-count q (omega arith) in
     let t = ap (joinFits (queryIn q)) (join-at q (omega arith) (e .loop .i) _ _ (f .before .before .before .loop-test .taken) refl)
-    ∙ sym (f .fits2 .ensures ∙ fits-word (queryIn q) (omega (arith, tables-most q)) (trees-few (queryIn q) (omega (arith, tables-most q)) (omega arith)) _ _ _ (e .loop .inv .1) (f .before .line .ensures)) in
+    ∙ sym (f .fits2 .ensures ∙ fits-word (queryIn q) (omega (arith, tables-most q))
+    (trees-few (queryIn q) (omega (arith, tables-most q)) (omega arith)) _ _ _ (e .loop .inv .1) (f .before .line .ensures)) in
     sym (e .loop .inv .2 ∙ all-stops (joinFits (queryIn q)) (queryIn q .joins) (e .loop .i) _ (omega arith) (t ∙ c .if1 .left))
 
 returns-2 : tie.Need-returns-2 Inv-loop μ-loop
