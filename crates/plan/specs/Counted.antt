@@ -1,5 +1,5 @@
--- Counts within the arrays' room: what the functions over a stored query ask of it. Questions 3, 5, 6 and 9 see to it.
--- Assumes nothing.
+-- Counts within the arrays' room: what the functions over a stored query ask of it. Questions 3, 5 and 6 see to it; the functions
+-- over the joining order ask the same of the count of pairs, to which question 9 sees. Assumes nothing.
 use Prim.Native.Nat.{ℕ, _≤_}
 use Rattle.plan.specs.declared.query.StoredQuery.{StoredQuery}
 
@@ -7,4 +7,3 @@ pub record Counted (q : StoredQuery) : Type 0 where
   pub tables : q .«table_count» ≤ 8
   pub joins : q .«join_count» ≤ 7
   pub conditions : q .«condition_count» ≤ 32
-  pub pairs : q .«pair_count» ≤ 7
