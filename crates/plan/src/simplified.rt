@@ -24,7 +24,7 @@ pub struct Sides {
 }
 
 // The tables of a node's tree.
-pub fn under_at(under: [u64; NODES], i: u16) -> u64
+fn under_at(under: [u64; NODES], i: u16) -> u64
     ensures { λ r. ⌜ r ≡ getD under i 1 ⌝ }
 {
     let at = i as usize;
@@ -35,7 +35,7 @@ pub fn under_at(under: [u64; NODES], i: u16) -> u64
 }
 
 // The trees that are tables.
-pub fn leaves_under(tables: usize) -> [u64; NODES]
+fn leaves_under(tables: usize) -> [u64; NODES]
     requires { ⌜ tables ≤ 8 ⌝ }
     ensures { λ r. ⌜ r ≡ underWords (leafTrees tables) ⌝ }
 {
@@ -49,7 +49,7 @@ pub fn leaves_under(tables: usize) -> [u64; NODES]
 }
 
 // What a join's right side adds: all of its tables where the join is outer.
-pub fn right_gain(kind: Kind, under: u64, rights: u64) -> u64
+fn right_gain(kind: Kind, under: u64, rights: u64) -> u64
     ensures { λ r. ⌜ r ≡ rightGain kind under rights ⌝ }
 {
     match kind {
@@ -60,7 +60,7 @@ pub fn right_gain(kind: Kind, under: u64, rights: u64) -> u64
 }
 
 // The trees with that of one join more.
-pub fn with_join(s: Sides, at: usize, j: StoredJoin) -> Sides
+fn with_join(s: Sides, at: usize, j: StoredJoin) -> Sides
     requires { ⌜ at < 15 ⌝ }
     ensures { λ r. ⌜ r ≡ withJoin s at (joinIn j) ⌝ }
 {
@@ -77,7 +77,7 @@ pub fn with_join(s: Sides, at: usize, j: StoredJoin) -> Sides
 }
 
 // The trees of all nodes.
-pub fn sides_of(q: StoredQuery) -> Sides
+fn sides_of(q: StoredQuery) -> Sides
     requires { ⌜ Counted q ⌝ }
     ensures { λ r. ⌜ r ≡ sidesWords (joinTrees (queryIn q)) ⌝ }
 {
@@ -97,7 +97,7 @@ pub fn sides_of(q: StoredQuery) -> Sides
 }
 
 // Whether a side is not blanked, or none of these tables is named.
-pub fn side_fits(blanks: bool, names: u64, rights: u64) -> bool
+fn side_fits(blanks: bool, names: u64, rights: u64) -> bool
     ensures { λ r. ⌜ r ≡ sideFits blanks names rights ⌝ }
 {
     if blanks {
@@ -107,7 +107,7 @@ pub fn side_fits(blanks: bool, names: u64, rights: u64) -> bool
 }
 
 // Whether a join that blanks a side names no table of the right side of an outer join there.
-pub fn fits(rights: [u64; NODES], j: BitJoin) -> bool
+fn fits(rights: [u64; NODES], j: BitJoin) -> bool
     ensures { λ r. ⌜ r ≡ simplifiedBits rights j ⌝ }
 {
     let kind = j.kind;
