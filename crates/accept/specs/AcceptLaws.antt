@@ -181,6 +181,9 @@ module _ {bs : Bytes} {s : StoredQuery} (a : Accepted-read bs s) where
       let (j, c) = rooms kept-here tables-here e in
       record { lines = a .lines; read = a .read; kept = a .kept; fits = a .fits; even = a .even; joins = j; conditions = c }
 
+pub passed-tables : {bs : Bytes} {s : StoredQuery} → Passed bs s → s .«table_count» ≤ 8
+passed-tables p = rw (p .kept, stored-tables (p .lines)) (fits-tables (p .lines) (p .fits) .1)
+
 -- ---- a call
 
 module _ (bs : Bytes) (before after : List ℤ) (a : Answer) (e : answerIn a ≡ readOutcome bs) where

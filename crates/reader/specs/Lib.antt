@@ -7,4 +7,5 @@ pub mod Kept
 pub mod Counts
 pub mod Query
 pub mod Outcome
+pub mod Looked
 pub mod Whole

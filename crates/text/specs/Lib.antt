@@ -13,3 +13,4 @@ pub mod Ranges
 pub mod FieldAnswers
 pub mod Fields
 pub mod Forms
+pub mod Letters

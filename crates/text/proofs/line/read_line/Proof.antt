@@ -1,7 +1,7 @@
 -- `text::line::read_line` meets its contract: one law for each letter. Assumes nothing.
 use mathlib.Core.Path.{_≡_, _∙_}
 use Rattle.text.specs.Bytes.{tab}
-use Rattle.text.specs.Forms.{line-T, line-D, line-J, line-C, line-K, line-P, line-long, line-other}
+use Rattle.text.specs.Letters.{line-T, line-D, line-J, line-C, line-K, line-P, line-long, line-other}
 use borrow.Author.Needs.{needs}
 use Rattle.text.proofs.line.read_line.Statement.{statement}
 use Rattle.text.proofs.line.read_line.Tie as tie

@@ -1,0 +1,65 @@
+-- `trials::trials` meets its contract: each turn begins further on. Assumes nothing.
+use mathlib.Core.Path.{_≡_, refl}
+use Prim.Native.Nat.{_+_, _≤_, _-_}
+use native.Mathlib.Omega.{arith}
+use borrow.Author.Needs.{needs}
+use lib.ListN.{length}
+use Rattle.trials.proofs.trials.Statement.{statement}
+use Rattle.trials.proofs.trials.Tie as tie
+
+abbrev Inv-loop : tie.InvT-loop
+Inv-loop input run₀ at₀ run at = (at ≤ length input + 1) × (length run ≡ length run₀)
+
+abbrev μ-loop : tie.MeasureT-loop
+μ-loop input run₀ at₀ run at = length input + 1 - at
+
+loop-holds : tie.Need-loop-holds Inv-loop μ-loop
+loop-holds c = (omega arith, refl)
+
+part-end-requires : tie.Need-part-end-requires Inv-loop μ-loop
+part-end-requires c κs = search needs
+
+sub-trial : tie.Need-sub-trial Inv-loop μ-loop
+sub-trial c = search needs
+
+part-trial-start : tie.Need-part-trial-start Inv-loop μ-loop
+part-trial-start c = search needs
+
+part-trial-end : tie.Need-part-trial-end Inv-loop μ-loop
+part-trial-end c = search needs
+
+trial-requires : tie.Need-trial-requires Inv-loop μ-loop
+trial-requires c κs = search needs
+
+add-at : tie.Need-add-at Inv-loop μ-loop
+add-at c = search needs
+
+loop-less : tie.Need-loop-less Inv-loop μ-loop
+loop-less c = search needs
+
+loop-again : tie.Need-loop-again Inv-loop μ-loop
+loop-again c = search needs
+
+same-length : tie.Need-same-length Inv-loop μ-loop
+same-length c = search needs
+
+returns : tie.Need-returns Inv-loop μ-loop
+returns c = search needs
+
+pub trials-spec : {M : Type 1} → statement M
+trials-spec =
+    tie.close
+    (tie.spec
+    Inv-loop
+    μ-loop
+    loop-holds
+    part-end-requires
+    sub-trial
+    part-trial-start
+    part-trial-end
+    trial-requires
+    add-at
+    loop-less
+    loop-again
+    same-length
+    returns)
