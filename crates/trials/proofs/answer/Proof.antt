@@ -1,4 +1,4 @@
--- `trials::answer` meets its contract: a text that passed has at most eight tables. Assumes nothing.
+-- `trials::answer` meets its contract: what passed is within the arrays' room. Assumes nothing.
 use Rattle.accept.specs.AcceptLaws.{passed-tables}
 use borrow.Author.Needs.{needs}
 use Rattle.trials.proofs.answer.Statement.{statement}
@@ -10,14 +10,19 @@ accept-requires c κs = search needs
 enum-known-outcome : tie.Need-enum-known-outcome
 enum-known-outcome c = search needs
 
-cast-result : tie.Need-cast-result
-cast-result c = search needs
+cast-number : tie.Need-cast-number
+cast-number c = search needs
+
+number-requires : tie.Need-number-requires
+number-requires c κs = search needs
 
 enum-told : tie.Need-enum-told
 enum-told c = search needs
 
 later-requires : tie.Need-later-requires
-later-requires c κs = passed-tables (c .before .before .before .before .accept .ensures .passed (c .enum-told .given .1))
+later-requires c κs =
+    let p = c .before .before .before .before .before .accept .ensures .passed (c .before .enum-told .given .1) in
+    record { tables = passed-tables p; joins = p .joins; conditions = p .conditions }
 
 same-length : tie.Need-same-length
 same-length c = search needs
@@ -28,6 +33,9 @@ returns c = search needs
 same-length-2 : tie.Need-same-length-2
 same-length-2 c = search needs
 
+same-length-3 : tie.Need-same-length-3
+same-length-3 c = search needs
+
 returns-2 : tie.Need-returns-2
 returns-2 c = search needs
 
@@ -37,10 +45,12 @@ answer-spec =
     (tie.spec
     accept-requires
     enum-known-outcome
-    cast-result
+    cast-number
+    number-requires
     enum-told
     later-requires
     same-length
     returns
     same-length-2
+    same-length-3
     returns-2)

@@ -14,10 +14,13 @@ returns c = search needs
 slice-aggregate-write-all : tie.Need-slice-aggregate-write-all
 slice-aggregate-write-all c =
     let p = c .before .before in
-    sym (length-take-le (p .part-end .result) (p .before .before .args .case .now) (p .part-end .ensures .2))
+    sym (length-take-le (p .part-end .result) (p .before .before .before .args .case .now) (p .part-end .ensures .2))
 
 write-all-requires : tie.Need-write-all-requires
 write-all-requires c κs = search needs
+
+shared-slice-read-planned : tie.Need-shared-slice-read-planned
+shared-slice-read-planned c = search needs
 
 add-answer : tie.Need-add-answer
 add-answer c = search needs
@@ -34,23 +37,11 @@ part-answer-end c = search needs
 answer-requires : tie.Need-answer-requires
 answer-requires c κs = search needs
 
-slice-aggregate-write-all-2 : tie.Need-slice-aggregate-write-all-2
-slice-aggregate-write-all-2 c = search needs
-
-write-all-requires-2 : tie.Need-write-all-requires-2
-write-all-requires-2 c κs = search needs
-
-print-decimal-requires : tie.Need-print-decimal-requires
-print-decimal-requires c κs = search needs
-
-slice-aggregate-write-all-3 : tie.Need-slice-aggregate-write-all-3
-slice-aggregate-write-all-3 c = search needs
-
-write-all-requires-3 : tie.Need-write-all-requires-3
-write-all-requires-3 c κs = search needs
-
 same-length : tie.Need-same-length
 same-length c = search needs
+
+same-length-2 : tie.Need-same-length-2
+same-length-2 c = search needs
 
 returns-2 : tie.Need-returns-2
 returns-2 c = search needs
@@ -63,15 +54,12 @@ trial-spec =
     returns
     slice-aggregate-write-all
     write-all-requires
+    shared-slice-read-planned
     add-answer
     sub-answer
     part-answer-start
     part-answer-end
     answer-requires
-    slice-aggregate-write-all-2
-    write-all-requires-2
-    print-decimal-requires
-    slice-aggregate-write-all-3
-    write-all-requires-3
     same-length
+    same-length-2
     returns-2)

@@ -8,13 +8,13 @@ use Rattle.trials.proofs.trials.Statement.{statement}
 use Rattle.trials.proofs.trials.Tie as tie
 
 abbrev Inv-loop : tie.InvT-loop
-Inv-loop input run₀ at₀ run at = (at ≤ length input + 1) × (length run ≡ length run₀)
+Inv-loop input run₀ out₀ at₀ run out at = (at ≤ length input + 1) × (length run ≡ length run₀) × (length out ≡ length out₀)
 
 abbrev μ-loop : tie.MeasureT-loop
-μ-loop input run₀ at₀ run at = length input + 1 - at
+μ-loop input run₀ out₀ at₀ run out at = length input + 1 - at
 
 loop-holds : tie.Need-loop-holds Inv-loop μ-loop
-loop-holds c = (omega arith, refl)
+loop-holds c = (omega arith, refl, refl)
 
 part-end-requires : tie.Need-part-end-requires Inv-loop μ-loop
 part-end-requires c κs = search needs
@@ -43,6 +43,9 @@ loop-again c = search needs
 same-length : tie.Need-same-length Inv-loop μ-loop
 same-length c = search needs
 
+same-length-2 : tie.Need-same-length-2 Inv-loop μ-loop
+same-length-2 c = search needs
+
 returns : tie.Need-returns Inv-loop μ-loop
 returns c = search needs
 
@@ -62,4 +65,5 @@ trials-spec =
     loop-less
     loop-again
     same-length
+    same-length-2
     returns)
