@@ -8,4 +8,5 @@ pub mod Counts
 pub mod Query
 pub mod Outcome
 pub mod Looked
+pub mod Cells
 pub mod Whole

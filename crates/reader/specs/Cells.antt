@@ -1,0 +1,88 @@
+-- The cells that an accepted text's layout and run hold are the report's, at every table, row and column, also where there is none.
+-- Assumes nothing.
+use mathlib.Core.Path.{_≡_, refl, sym, ap, _∙_}
+use mathlib.Core.Bool.{Bool, true, false, _&&_, and-false}
+use mathlib.Core.List.{List, [], _∷_, _++_, map}
+use Prim.Native.Nat.{ℕ, zero, suc, _+_, _-_, _<_, _≤_}
+use native.Mathlib.Nat.{zero-add}
+use native.Mathlib.Omega.{arith}
+use lib.Dec.{T, eqb, ltb}
+use lib.IntN.{ℤ}
+use lib.ListN.{length, drop, getD, replicate, length-map, length-replicate, List·getD-eq-default}
+use lib.Seq.{sets, sets-eq, getD-append-add, getD-drop}
+use borrow.Author.Tests.{le-ltb, ltb-true, ltb-false}
+use Rattle.cells.specs.Choice.{if_then_else_}
+use Rattle.cells.specs.Cell.{blankCell}
+use Rattle.cells.specs.Condition.{ownCell, cellsIn}
+use Rattle.cells.specs.declared.condition.Layout.{Layout}
+use Rattle.rows.specs.Lists.{all}
+use Rattle.rows.specs.ListLaws.{all-elim, getD-isIn}
+use Rattle.plan.specs.Report.{Table}
+use Rattle.text.specs.Lines.{Line}
+use Rattle.text.specs.Reading.{tablesOf, reportOf}
+use Rattle.text.specs.Questions.{cellsInTables, question4}
+use Rattle.load.specs.Flat.{flatTables}
+use Rattle.reader.specs.State.{noTables, closedRows}
+use Rattle.reader.specs.Survey.{start}
+use Rattle.reader.specs.Kept.{columns-kept}
+use Rattle.reader.specs.Query.{storedOf, done, after-tables}
+use Rattle.reader.specs.Looked.{Wide, noTable, cells-looked}
+use Rattle.reader.specs.declared.tables.Tables.{Tables}
+
+abbrev none : ℕ → List ℕ
+none n = replicate n 0
+
+zeros : (n i : ℕ) → getD (none n) i 0 ≡ 0
+zeros zero i = refl
+zeros (suc n) zero = refl
+zeros (suc n) (suc i) = zeros n i
+
+-- behind the values that were stored in an array of zeros there are zeros
+sets-beyond : (n : ℕ) (vs : List ℕ) (t : ℕ) → length vs ≤ n → length vs ≤ t → getD (sets (none n) 0 vs) t 0 ≡ 0
+sets-beyond n vs t h k =
+    let i : 0 + length vs ≤ length (none n) = rw length-replicate (omega arith) in
+    let e : t ≡ length vs + (t - length vs) = omega arith in
+    ap (λ (l : List ℕ). getD l t 0) (sets-eq vs (none n) 0 i)
+    ∙ ap (λ (x : ℕ). getD (vs ++ drop (0 + length vs) (none n)) x 0) e
+    ∙ getD-append-add vs (drop (0 + length vs) (none n)) (t - length vs) 0
+    ∙ getD-drop (0 + length vs) (none n) (t - length vs) 0
+    ∙ zeros n (0 + length vs + (t - length vs))
+
+true-of : (b : Bool) → T b → b ≡ true
+true-of true h = refl
+true-of false h = absurd h
+
+module _ (ls : List Line) (early : (tablesOf ls) .0 ≡ []) (fits : length ((tablesOf ls) .1) ≤ 8)
+    (few : cellsInTables ((tablesOf ls) .1) ≤ 4096) (even : question4 (reportOf ls) ≡ true) where
+  abbrev ts : List Table
+  ts = (tablesOf ls) .1
+
+  abbrev layout : Layout
+  layout = (storedOf (done ls)) .layout
+
+  columns-beyond : (t : ℕ) → length ts ≤ t → getD (layout .columns) t 0 ≡ 0
+  unfolding storedOf closedRows start noTables
+  columns-beyond t h =
+      let n : length (map (λ (x : Table). x .columns) ts) ≡ length ts = length-map ts (λ (x : Table). x .columns) in
+      ap (λ (x : Tables). getD (x .layout .columns) t 0) (after-tables start ls)
+      ∙ ap (λ (x : List ℕ). getD x t 0) (columns-kept noTables ls)
+      ∙ sets-beyond 8 (map (λ (x : Table). x .columns) ts) t (rw n fits) (rw n h)
+
+  wide : (t : ℕ) → t < length ts → Wide (getD ts t noTable .columns) (getD ts t noTable .rows)
+  unfolding question4 reportOf
+  wide t h = true-of _ (all-elim (λ (x : Table). all (λ (zs : List ℤ). eqb (length zs) (x .columns)) (x .rows)) ts (rw even tt)
+      (getD ts t noTable) (getD-isIn ts t noTable h))
+
+  pub cells-whole : (more : List ℤ) (t row column : ℕ)
+      → cellsIn (flatTables ts ++ more) layout t row column ≡ getD (getD (getD ts t noTable .rows) row []) column blankCell
+  unfolding cellsIn ownCell noTable
+  cells-whole more t row column = go (ltb t (length ts)) refl
+    where
+      go : (b : Bool) → ltb t (length ts) ≡ b
+          → cellsIn (flatTables ts ++ more) layout t row column ≡ getD (getD (getD ts t noTable .rows) row []) column blankCell
+      go true e = cells-looked ls early fits few t (ltb-true t (length ts) e) more row column (wide t (ltb-true t (length ts) e))
+      go false e =
+          let h : length ts ≤ t = ltb-false t (length ts) e in
+          let z : getD ts t noTable ≡ noTable = List·getD-eq-default ts noTable h in
+          let no : ltb column 0 ≡ false = le-ltb column 0 (omega arith) in
+          rw (columns-beyond t h, no, and-false (ltb row (getD (layout .rows) t 0)), z)
