@@ -9,4 +9,5 @@ pub mod Query
 pub mod Outcome
 pub mod Looked
 pub mod Cells
+pub mod Conditions
 pub mod Whole

@@ -191,7 +191,7 @@ kept-joins ls h =
     ∙ ap (take (length ((storedJoins 0 ls) .1))) (joins-kept noJoins ls)
     ∙ sets-take (set (noJoins .joins) (noJoins .count - 1) (more ((storedJoins 0 ls) .0) (noJoins .latest))) ((storedJoins 0 ls) .1) h
 
-kept-conditions : (ls : List Line) → length (conditionsOf ls) ≤ 32
+pub kept-conditions : (ls : List Line) → length (conditionsOf ls) ≤ 32
     → take (length (conditionsOf ls)) ((storedOf (done ls)) .conditions) ≡ conditionsOf ls
 unfolding storedOf start noJoins
 kept-conditions ls h =

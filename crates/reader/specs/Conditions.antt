@@ -1,0 +1,88 @@
+-- Every condition number has the same truth on what is kept of a text as on the report; past the last one there is none that is true.
+-- Assumes nothing.
+use mathlib.Core.Path.{_≡_, refl, sym, ap, ap₂, _∙_}
+use mathlib.Core.Bool.{Bool, true, false}
+use mathlib.Core.Logic.{inl}
+use mathlib.Core.List.{List, [], _∷_, _++_}
+use Prim.Native.Nat.{ℕ, zero, suc, _+_, _-_, _<_, _≤_}
+use native.Mathlib.Omega.{arith}
+use lib.Dec.{ltb}
+use lib.IntN.{ℤ}
+use lib.ListN.{length, take, drop, getD, replicate, length-replicate, List·getD-eq-default}
+use lib.Seq.{sets, sets-eq, getD-append-add, getD-drop, getD-take}
+use borrow.Author.Tests.{ltb-true, ltb-false}
+use Rattle.cells.specs.Row.{Row, at}
+use Rattle.cells.specs.Condition.{Cells, cellIn, sideIn, trueIn}
+use Rattle.cells.specs.Operator.{holds}
+use Rattle.cells.specs.OperatorLaws.{holds-outside}
+use Rattle.cells.specs.declared.condition.Condition.{Condition}
+use Rattle.cells.specs.declared.condition.Side.{Side}
+use Rattle.cells.specs.declared.condition.Side.the-variants.{Column, Constant}
+use Rattle.plan.specs.Report.{noCondition, queryOf, conditionAt}
+use Rattle.text.specs.Lines.{Line}
+use Rattle.text.specs.Reading.{conditionsOf, reportOf}
+use Rattle.reader.specs.State.{noJoins}
+use Rattle.reader.specs.Survey.{start}
+use Rattle.reader.specs.Kept.{conditions-kept}
+use Rattle.reader.specs.Query.{storedOf, done, after-joins, kept-conditions}
+use Rattle.reader.specs.declared.joins.Joins.{Joins}
+
+-- cells that are the same everywhere make the same conditions true
+pub true-cells : (f g : Cells) → ((t row column : ℕ) → f t row column ≡ g t row column) → (k : Condition) (row : Row) → trueIn f k row ≡ trueIn g k row
+unfolding trueIn cellIn sideIn
+true-cells f g same k row = ap₂ (holds (k .operator)) (cell (k .table) (k .column)) (side (k .side))
+  where
+    cell : (t c : ℕ) → cellIn f row t c ≡ cellIn g row t c
+    cell t c = rw (same t (at row t) c)
+
+    side : (s : Side) → sideIn f row s ≡ sideIn g row s
+    side (Column t c) = cell t c
+    side (Constant z) = refl
+
+-- a condition with code 0 is true in no row
+no-operator : (f : Cells) (k : Condition) (row : Row) → k .operator ≡ 0 → trueIn f k row ≡ false
+unfolding trueIn
+no-operator f k row e = holds-outside (k .operator) (cellIn f row (k .table) (k .column)) (sideIn f row (k .side)) (inl (omega arith))
+
+replicated : (n i : ℕ) (z : Condition) → z .operator ≡ 0 → getD (replicate n z) i noCondition .operator ≡ 0
+unfolding noCondition
+replicated zero i z e = refl
+replicated (suc n) zero z e = e
+replicated (suc n) (suc i) z e = replicated n i z e
+
+behind : (n : ℕ) (z : Condition) (vs : List Condition) (t : ℕ) → z .operator ≡ 0 → length vs ≤ n → length vs ≤ t
+    → getD (sets (replicate n z) 0 vs) t noCondition .operator ≡ 0
+behind n z vs t o h k =
+    let i : 0 + length vs ≤ length (replicate n z) = rw length-replicate (omega arith) in
+    let e : t ≡ length vs + (t - length vs) = omega arith in
+    ap (λ (l : List Condition). getD l t noCondition .operator) (sets-eq vs (replicate n z) 0 i)
+    ∙ ap (λ (x : ℕ). getD (vs ++ drop (0 + length vs) (replicate n z)) x noCondition .operator) e
+    ∙ ap (λ (x : Condition). x .operator) (getD-append-add vs (drop (0 + length vs) (replicate n z)) (t - length vs) noCondition)
+    ∙ ap (λ (x : Condition). x .operator) (getD-drop (0 + length vs) (replicate n z) (t - length vs) noCondition)
+    ∙ replicated n (0 + length vs + (t - length vs)) z o
+
+module _ (ls : List Line) (fits : length (conditionsOf ls) ≤ 32) where
+  beyond : (c : ℕ) → length (conditionsOf ls) ≤ c → getD ((storedOf (done ls)) .conditions) c noCondition .operator ≡ 0
+  unfolding storedOf start noJoins
+  beyond c h =
+      ap (λ (j : Joins). getD (j .conditions) c noCondition .operator) (after-joins start ls)
+      ∙ ap (λ (l : List Condition). getD l c noCondition .operator) (conditions-kept noJoins ls)
+      ∙ behind 32 (record { table = 0; column = 0; operator = 0; side = Column 0 0 }) (conditionsOf ls) c refl fits h
+
+  pub condition-seen : (f : Cells) (c : ℕ) (row : Row)
+      → trueIn f (getD ((storedOf (done ls)) .conditions) c noCondition) row ≡ trueIn f (conditionAt (queryOf (reportOf ls)) c) row
+  unfolding conditionAt queryOf reportOf noCondition
+  condition-seen f c row = go (ltb c (length (conditionsOf ls))) refl
+    where
+      go : (b : Bool) → ltb c (length (conditionsOf ls)) ≡ b
+          → trueIn f (getD ((storedOf (done ls)) .conditions) c noCondition) row ≡ trueIn f (getD (conditionsOf ls) c noCondition) row
+      go true e =
+          let h : c < length (conditionsOf ls) = ltb-true c (length (conditionsOf ls)) e in
+          ap (λ (k : Condition). trueIn f k row)
+          (sym (getD-take (length (conditionsOf ls)) ((storedOf (done ls)) .conditions) c noCondition h)
+          ∙ ap (λ (l : List Condition). getD l c noCondition) (kept-conditions ls fits))
+      go false e =
+          let h : length (conditionsOf ls) ≤ c = ltb-false c (length (conditionsOf ls)) e in
+          no-operator f (getD ((storedOf (done ls)) .conditions) c noCondition) row (beyond c h)
+          ∙ sym (no-operator f (getD (conditionsOf ls) c noCondition) row
+          (ap (λ (k : Condition). k .operator) (List·getD-eq-default (conditionsOf ls) noCondition h)))
