@@ -9,3 +9,4 @@ pub mod Demand3Proof
 pub mod Examples
 pub mod CallLaws
 pub mod Demand3Calls
+pub mod Seen

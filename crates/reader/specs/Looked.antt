@@ -154,7 +154,7 @@ module _ (ls : List Line) (early : (tablesOf ls) .0 ≡ []) (fits : length ((tab
       ∙ sets-at (replicate 8 0) (map (λ (x : Table). x .columns) ts) t 0 (omega arith) (omega arith)
       ∙ List·getD-map (λ (x : Table). x .columns) ts t noTable
 
-  rows-at : getD (layout .rows) t 0 ≡ length (table .rows)
+  pub rows-at : getD (layout .rows) t 0 ≡ length (table .rows)
   unfolding storedOf closedRows start noTables noTable
   rows-at =
       let n : length (map (λ (x : Table). length (x .rows)) ts) ≡ length ts = length-map ts (λ (x : Table). length (x .rows)) in

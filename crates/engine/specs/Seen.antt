@@ -1,0 +1,71 @@
+-- Work space over the run that an accepted text leaves is the report's database, with blank entries behind each row; so the rows of
+-- the tree are the definitions' rows. Assumes nothing.
+use mathlib.Core.Path.{_≡_, refl, sym, ap, ap₂, _∙_, subst}
+use mathlib.Core.Bool.{Bool, true, false}
+use mathlib.Core.List.{List, [], _∷_, _++_, map, flatMap}
+use Prim.Native.Nat.{ℕ, _+_, _-_, _<_, _≤_}
+use native.Mathlib.Omega.{arith}
+use lib.IntN.{ℤ}
+use lib.ListN.{length, take, drop, getD, length-map}
+use Rattle.cells.specs.Cell.{blankCell}
+use Rattle.cells.specs.Condition.{cellsIn, trueIn}
+use Rattle.cells.specs.Row.{Row, blankRow}
+use Rattle.rows.specs.Rows.{ordered}
+use Rattle.rows.specs.Trees.{Tree, rowsOf}
+use Rattle.rows.specs.Shapes.{Shaped}
+use Rattle.rows.specs.TreeLaws.{rows-valid}
+use Rattle.plan.specs.Report.{Table, Report, noCondition, queryOf, tableCount, conditionAt}
+use Rattle.plan.specs.declared.query.StoredQuery.{StoredQuery}
+use Rattle.text.specs.Lines.{Line}
+use Rattle.text.specs.Reading.{tablesOf, conditionsOf, reportOf}
+use Rattle.text.specs.Questions.{cellsInTables, question4}
+use Rattle.load.specs.Flat.{flatTables}
+use Rattle.reader.specs.Query.{storedOf, done}
+use Rattle.reader.specs.Looked.{noTable, rows-at}
+use Rattle.reader.specs.Cells.{cells-whole}
+use Rattle.reader.specs.Conditions.{true-cells, condition-seen}
+use Rattle.joins.specs.Work.{workspace}
+use Rattle.run.specs.Database.{databaseOf, tableAt, rowsIn, cellsOf, database}
+use Rattle.run.specs.DatabaseLaws.{lawful}
+use Rattle.run.specs.Padding.{pad, workspace-pad, ordered-pad, flat-pad}
+use Rattle.run.specs.WidthLaws.{rows-pad}
+
+module _ (ls : List Line) (early : (tablesOf ls) .0 ≡ []) (fits : length ((tablesOf ls) .1) ≤ 8)
+    (few : cellsInTables ((tablesOf ls) .1) ≤ 4096) (even : question4 (reportOf ls) ≡ true) (numbered : length (conditionsOf ls) ≤ 32)
+    (more : List ℤ) where
+  abbrev s : StoredQuery
+  s = storedOf (done ls)
+
+  abbrev r : Report
+  r = reportOf ls
+
+  -- the run that the text leaves
+  abbrev run : List ℤ
+  run = flatTables ((tablesOf ls) .1) ++ more
+
+  cells-same : (t row column : ℕ) → cellsIn run (s .layout) t row column ≡ cellsOf r t row column
+  unfolding cellsOf tableAt noTable reportOf
+  cells-same t row column = cells-whole ls early fits few even more t row column
+
+  -- a condition is true in a row of work space exactly if it is in the row
+  pub seen : (k c : ℕ) (row : Row) → workspace run (s .layout) (s .conditions) .holds c (pad k row) ≡ database r .holds c row
+  unfolding workspace database databaseOf
+  seen k c row =
+      workspace-pad run (s .layout) (s .conditions) k c row
+      ∙ true-cells (cellsIn run (s .layout)) (cellsOf r) cells-same (getD (s .conditions) c noCondition) row
+      ∙ condition-seen ls numbered (cellsOf r) c row
+
+  width : tableCount (queryOf r) ≡ length ((tablesOf ls) .1)
+  unfolding tableCount queryOf reportOf
+  width = length-map ((tablesOf ls) .1) (λ (t : Table). t .columns)
+
+  pub counts : (t : ℕ) → t < tableCount (queryOf r) → workspace run (s .layout) (s .conditions) .rowCount t ≡ rowsIn r t
+  unfolding workspace rowsIn tableAt noTable reportOf
+  counts t h = rows-at ls early fits few t (subst (λ (n : ℕ). t < n) width h)
+
+  module _ (small : (t : ℕ) → rowsIn r t ≤ blankRow) where
+    pub rows-seen : (E : Tree ℕ) → Shaped (lawful (queryOf r) (rowsIn r) (cellsOf r) small) E
+        → rowsOf (workspace run (s .layout) (s .conditions)) E ≡ map (pad (8 - tableCount (queryOf r))) (rowsOf (database r) E)
+    unfolding workspace database databaseOf
+    rows-seen E h = rows-pad (workspace run (s .layout) (s .conditions)) (lawful (queryOf r) (rowsIn r) (cellsOf r) small)
+        (8 - tableCount (queryOf r)) (omega (arith, width)) counts (seen (8 - tableCount (queryOf r))) E h
