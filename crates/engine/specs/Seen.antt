@@ -10,7 +10,7 @@ use lib.ListN.{length, take, drop, getD, length-map}
 use Rattle.cells.specs.Cell.{blankCell}
 use Rattle.cells.specs.Condition.{cellsIn, trueIn}
 use Rattle.cells.specs.Row.{Row, blankRow}
-use Rattle.rows.specs.Rows.{ordered}
+use Rattle.rows.specs.Nullification.{Blanking, finished}
 use Rattle.rows.specs.Trees.{Tree, rowsOf}
 use Rattle.rows.specs.Shapes.{Shaped}
 use Rattle.rows.specs.TreeLaws.{rows-valid}
@@ -27,7 +27,7 @@ use Rattle.reader.specs.Conditions.{true-cells, condition-seen}
 use Rattle.joins.specs.Work.{workspace}
 use Rattle.run.specs.Database.{databaseOf, tableAt, rowsIn, cellsOf, database}
 use Rattle.run.specs.DatabaseLaws.{lawful}
-use Rattle.run.specs.Padding.{pad, workspace-pad, ordered-pad, flat-pad}
+use Rattle.run.specs.Padding.{pad, Wide, workspace-pad, finished-wide, finished-pad, flat-pad}
 use Rattle.run.specs.WidthLaws.{rows-pad}
 
 module _ (ls : List Line) (early : (tablesOf ls) .0 ≡ []) (fits : length ((tablesOf ls) .1) ≤ 8)
@@ -69,3 +69,28 @@ module _ (ls : List Line) (early : (tablesOf ls) .0 ≡ []) (fits : length ((tab
     unfolding workspace database databaseOf
     rows-seen E h = rows-pad (workspace run (s .layout) (s .conditions)) (lawful (queryOf r) (rowsIn r) (cellsOf r) small)
         (8 - tableCount (queryOf r)) (omega (arith, width)) counts (seen (8 - tableCount (queryOf r))) E h
+
+    -- the numbers that are handed over after any list of blanking steps are the definitions' rows, row after row
+    module _ (E : Tree ℕ) (h : Shaped (lawful (queryOf r) (rowsIn r) (cellsOf r) small) E) (L : List (Blanking ℕ)) where
+      wide : Wide (tableCount (queryOf r)) (rowsOf (database r) E)
+      unfolding database databaseOf
+      wide row m = rows-valid (lawful (queryOf r) (rowsIn r) (cellsOf r) small) E h row m .len
+
+      finished-seen : finished (workspace run (s .layout) (s .conditions)) L (rowsOf (workspace run (s .layout) (s .conditions)) E)
+          ≡ map (pad (8 - tableCount (queryOf r))) (finished (database r) L (rowsOf (database r) E))
+      finished-seen =
+          ap (finished (workspace run (s .layout) (s .conditions)) L) (rows-seen E h)
+          ∙ finished-pad (workspace run (s .layout) (s .conditions)) (database r) (8 - tableCount (queryOf r)) (tableCount (queryOf r))
+          (seen (8 - tableCount (queryOf r))) L (rowsOf (database r) E) wide
+
+      pub numbers-seen : flatMap (take (tableCount (queryOf r)))
+          (finished (workspace run (s .layout) (s .conditions)) L (rowsOf (workspace run (s .layout) (s .conditions)) E))
+          ≡ flatMap (λ (row : Row). row) (finished (database r) L (rowsOf (database r) E))
+      numbers-seen =
+          ap (flatMap (take (tableCount (queryOf r)))) finished-seen
+          ∙ flat-pad (8 - tableCount (queryOf r)) (tableCount (queryOf r)) (finished (database r) L (rowsOf (database r) E))
+          (finished-wide (database r) (tableCount (queryOf r)) L (rowsOf (database r) E) wide)
+
+      pub count-seen : length (finished (workspace run (s .layout) (s .conditions)) L (rowsOf (workspace run (s .layout) (s .conditions)) E))
+          ≡ length (finished (database r) L (rowsOf (database r) E))
+      count-seen = ap length finished-seen ∙ length-map (finished (database r) L (rowsOf (database r) E)) (pad (8 - tableCount (queryOf r)))
