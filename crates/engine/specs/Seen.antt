@@ -5,16 +5,24 @@ use mathlib.Core.Bool.{Bool, true, false}
 use mathlib.Core.List.{List, [], _∷_, _++_, map, flatMap}
 use Prim.Native.Nat.{ℕ, _+_, _-_, _<_, _≤_}
 use native.Mathlib.Omega.{arith}
+use lib.Dec.{T}
 use lib.IntN.{ℤ}
 use lib.ListN.{length, take, drop, getD, length-map}
 use Rattle.cells.specs.Cell.{blankCell}
 use Rattle.cells.specs.Condition.{cellsIn, trueIn}
 use Rattle.cells.specs.Row.{Row, blankRow}
-use Rattle.rows.specs.Nullification.{Blanking, finished}
+use Rattle.rows.specs.Rows.{ordered}
+use Rattle.rows.specs.Nullification.{Blanking, finished, planRows}
 use Rattle.rows.specs.Trees.{Tree, rowsOf}
-use Rattle.rows.specs.Shapes.{Shaped}
+use Rattle.rows.specs.Shapes.{Lawful, Shaped}
 use Rattle.rows.specs.TreeLaws.{rows-valid}
 use Rattle.plan.specs.Report.{Table, Report, noCondition, queryOf, tableCount, conditionAt}
+use Rattle.plan.specs.Nodes.{joinTree}
+use Rattle.plan.specs.Plan.{planTree}
+use Rattle.plan.specs.Questions.{question9}
+use Rattle.plan.specs.QueryLaws.{Accepted, query-shaped}
+use Rattle.plan.specs.PlanLaws.{order-built, plan-shaped}
+use Rattle.plan.specs.StepLists.{StepList}
 use Rattle.plan.specs.declared.query.StoredQuery.{StoredQuery}
 use Rattle.text.specs.Lines.{Line}
 use Rattle.text.specs.Reading.{tablesOf, conditionsOf, reportOf}
@@ -26,7 +34,9 @@ use Rattle.reader.specs.Cells.{cells-whole}
 use Rattle.reader.specs.Conditions.{true-cells, condition-seen}
 use Rattle.joins.specs.Work.{workspace}
 use Rattle.run.specs.Database.{databaseOf, tableAt, rowsIn, cellsOf, database}
-use Rattle.run.specs.DatabaseLaws.{lawful}
+use Rattle.run.specs.DatabaseLaws.{lawful, lawful-names, database-width}
+use Rattle.run.specs.RunLaws.{run-rows}
+use Rattle.run.specs.Runs.{runRows, directRows}
 use Rattle.run.specs.Padding.{pad, Wide, workspace-pad, finished-wide, finished-pad, flat-pad}
 use Rattle.run.specs.WidthLaws.{rows-pad}
 
@@ -94,3 +104,26 @@ module _ (ls : List Line) (early : (tablesOf ls) .0 ≡ []) (fits : length ((tab
       pub count-seen : length (finished (workspace run (s .layout) (s .conditions)) L (rowsOf (workspace run (s .layout) (s .conditions)) E))
           ≡ length (finished (database r) L (rowsOf (database r) E))
       count-seen = ap length finished-seen ∙ length-map (finished (database r) L (rowsOf (database r) E)) (pad (8 - tableCount (queryOf r)))
+
+    -- demand 3 over work space: the pairs' rows after any list of blanking steps that document 01 allows, and the tree's rows, are the
+    -- same numbers in the result buffer
+    module _ (ok : Accepted (queryOf r)) (nine : T (question9 (queryOf r))) (L : List (Blanking ℕ)) (list : StepList (queryOf r) L) where
+      abbrev laws : Lawful (databaseOf (queryOf r) (rowsIn r) (cellsOf r))
+      laws = lawful (queryOf r) (rowsIn r) (cellsOf r) small
+
+      plan-tree : Shaped laws (planTree (queryOf r))
+      plan-tree = plan-shaped (queryOf r) laws (database-width (queryOf r) (rowsIn r) (cellsOf r) small)
+          (lawful-names (queryOf r) (rowsIn r) (cellsOf r) small) (order-built (queryOf r) (ok .five) nine)
+
+      query-tree : Shaped laws (joinTree (queryOf r))
+      query-tree = query-shaped (queryOf r) ok laws (database-width (queryOf r) (rowsIn r) (cellsOf r) small)
+          (lawful-names (queryOf r) (rowsIn r) (cellsOf r) small)
+
+      pub buffers-agree : flatMap (take (tableCount (queryOf r)))
+          (finished (workspace run (s .layout) (s .conditions)) L (rowsOf (workspace run (s .layout) (s .conditions)) (planTree (queryOf r))))
+          ≡ flatMap (take (tableCount (queryOf r))) (ordered (rowsOf (workspace run (s .layout) (s .conditions)) (joinTree (queryOf r))))
+      unfolding runRows planRows directRows finished
+      buffers-agree =
+          numbers-seen (planTree (queryOf r)) plan-tree L
+          ∙ ap (flatMap (λ (row : Row). row)) (run-rows r ok small nine L list)
+          ∙ sym (numbers-seen (joinTree (queryOf r)) query-tree [])
