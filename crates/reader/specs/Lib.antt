@@ -10,4 +10,5 @@ pub mod Outcome
 pub mod Looked
 pub mod Cells
 pub mod Conditions
+pub mod Ranges
 pub mod Whole
