@@ -10,3 +10,4 @@ pub mod Examples
 pub mod CallLaws
 pub mod Demand3Calls
 pub mod Seen
+pub mod Readable
