@@ -72,10 +72,10 @@ table-rows : (t : Table) → T (tableFits t) → length (t .rows) ≤ 256
 unfolding tableFits
 table-rows t h = leb-yes (and-yes (leb 1 (t .columns) && leb (t .columns) 8) (leb (length (t .rows)) 256) h .1)
 
--- question 3: a table has at most 256 rows, so that no row number is the blank
-pub few-rows : (r : Report) → T (question3 r) → (t : ℕ) → rowsIn r t ≤ blankRow
-unfolding question3 rowsIn tableAt blankRow
-few-rows r h t = by-cases (decLt t (length (r .tables)))
+-- question 3: a table has at most 256 rows
+pub rows-limit : (r : Report) → T (question3 r) → (t : ℕ) → rowsIn r t ≤ 256
+unfolding question3 rowsIn tableAt
+rows-limit r h t = by-cases (decLt t (length (r .tables)))
     (λ b.
     let k = table-rows (getD (r .tables) t empty) (all-elim tableFits (r .tables) fit (getD (r .tables) t empty) (getD-isIn (r .tables) t empty b)) in
     omega arith)
@@ -87,6 +87,11 @@ few-rows r h t = by-cases (decLt t (length (r .tables)))
     fit : T (all tableFits (r .tables))
     fit = and-yes (leb 1 (length (r .tables)) && leb (length (r .tables)) 8) (all tableFits (r .tables))
         (and-yes (leb 1 (length (r .tables)) && leb (length (r .tables)) 8 && all tableFits (r .tables)) (leb (cellsInTables (r .tables)) 4096) h .0) .1
+
+-- so that no row number is the blank
+pub few-rows : (r : Report) → T (question3 r) → (t : ℕ) → rowsIn r t ≤ blankRow
+unfolding blankRow
+few-rows r h t = omega (arith, rows-limit r h t)
 
 -- ---- outcomes
 

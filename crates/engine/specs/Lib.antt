@@ -11,3 +11,9 @@ pub mod CallLaws
 pub mod Demand3Calls
 pub mod Seen
 pub mod Readable
+pub mod Asked
+pub mod Kept
+pub mod Reached
+pub mod Gave
+pub mod DirectLaws
+pub mod DirectCode

@@ -1,0 +1,121 @@
+-- What an accepted text's runs reach, as the code sees it over work space: question 11 of the direct reading. Assumes nothing.
+use mathlib.Core.Path.{_≡_, refl, sym, ap, ap₂, _∙_, subst}
+use mathlib.Core.Bool.{Bool, true, false, _&&_}
+use mathlib.Core.List.{List, [], _∷_, _++_, map, flatMap}
+use mathlib.Core.Option.{none}
+use Prim.Native.Nat.{ℕ, _<_, _≤_}
+use native.Mathlib.Omega.{arith}
+use lib.Dec.{T, leb}
+use lib.IntN.{ℤ}
+use lib.ListN.{length, take, length-map}
+use mir.Facts.{and-yes, leb-yes}
+use Rattle.cells.specs.Row.{Row, blankRow}
+use Rattle.rows.specs.Lists.{all}
+use Rattle.rows.specs.Rows.{ordered}
+use Rattle.rows.specs.Nullification.{finished}
+use Rattle.rows.specs.Trees.{Database, Tree, leaf, join, joined, rowsOf}
+use Rattle.rows.specs.Shapes.{Lawful, Shaped}
+use Rattle.plan.specs.Report.{Table, Report, Query, queryOf, tableCount}
+use Rattle.plan.specs.Nodes.{joinTrees, joinTree}
+use Rattle.plan.specs.Questions.{question8}
+use Rattle.plan.specs.QueryLaws.{Accepted, query-matched, query-built, query-shaped}
+use Rattle.plan.specs.declared.query.StoredQuery.{StoredQuery}
+use Rattle.text.specs.Bytes.{Bytes}
+use Rattle.text.specs.Lines.{Line}
+use Rattle.text.specs.Reading.{tablesOf, conditionsOf, reportOf}
+use Rattle.load.specs.Flat.{flatTables}
+use Rattle.reader.specs.Query.{storedOf, done, stored-numbered}
+use Rattle.joins.specs.Work.{workspace}
+use Rattle.run.specs.Database.{databaseOf, rowsIn, cellsOf, database}
+use Rattle.run.specs.DatabaseLaws.{lawful, lawful-names, database-width}
+use Rattle.run.specs.LimitLaws.{within256, whole-results, results-whole}
+use Rattle.run.specs.Padding.{pad}
+use Rattle.run.specs.Runs.{results, withinLimit, directRows, question11Direct}
+use Rattle.accept.specs.Accept.{refusal, Passed}
+use Rattle.accept.specs.AcceptLaws.{fits-tables}
+use Rattle.engine.specs.Answers.{sharedQuestions, firstNo}
+use Rattle.engine.specs.AnswerLaws.{report-accepted, rows-limit, few-rows}
+use Rattle.engine.specs.Asked.{passed-early, eight-yes}
+use Rattle.engine.specs.Readable.{few-cells, early}
+use Rattle.engine.specs.Seen.{rows-seen, numbers-seen, count-seen}
+
+-- two tests that follow from each other
+same-test : (a b : Bool) → (T a → T b) → (T b → T a) → a ≡ b
+same-test true true f g = refl
+same-test true false f g = absurd (f tt)
+same-test false true f g = absurd (g tt)
+same-test false false f g = refl
+
+module _ {bs : Bytes} {s : StoredQuery} (p : Passed bs s) (passed : refusal bs ≡ none) (eight : question8 (queryOf (reportOf (p .lines))) ≡ true)
+    (more : List ℤ) where
+  abbrev ls : List Line
+  ls = p .lines
+
+  abbrev r : Report
+  r = reportOf ls
+
+  abbrev q : Query
+  q = queryOf r
+
+  pub shared-yes : firstNo sharedQuestions r ≡ none
+  unfolding sharedQuestions firstNo
+  shared-yes = eight-yes [] r (passed-early bs ls (p .read) passed) eight
+
+  pub ok : Accepted q
+  ok = report-accepted ls shared-yes
+
+  abbrev small : (t : ℕ) → rowsIn r t ≤ blankRow
+  small = few-rows r (rw (p .fits) tt)
+
+  abbrev laws : Lawful (databaseOf q (rowsIn r) (cellsOf r))
+  laws = lawful q (rowsIn r) (cellsOf r) small
+
+  -- work space over the run that the text leaves
+  abbrev W : Database ℕ
+  W = workspace (flatTables ((tablesOf ls) .1) ++ more) ((storedOf (done ls)) .layout) ((storedOf (done ls)) .conditions)
+
+  few : length ((tablesOf ls) .1) ≤ 8
+  few = fits-tables ls (p .fits) .1
+
+  numbered : length (conditionsOf ls) ≤ 32
+  numbered = subst (λ (n : ℕ). n ≤ 32) (ap (λ (x : StoredQuery). x .«condition_count») (p .kept) ∙ stored-numbered ls) (p .conditions)
+
+  query-tree : Shaped laws (joinTree q)
+  query-tree = query-shaped q ok laws (database-width q (rowsIn r) (cellsOf r) small) (lawful-names q (rowsIn r) (cellsOf r) small)
+
+  -- a tree's joins have as many rows in work space as in the report's tables
+  pub rows-count : (E : Tree ℕ) → Shaped laws E → length (rowsOf W E) ≡ length (rowsOf (database r) E)
+  rows-count E h =
+      ap length (rows-seen ls (early p) few (few-cells ls (p .fits)) (p .even) numbered more small E h)
+      ∙ length-map (rowsOf (database r) E) (pad _)
+
+  within-seen : (E : Tree ℕ) → Shaped laws E → within256 W E ≡ within256 (database r) E
+  unfolding within256 rowsOf
+  within-seen (leaf t) h = refl
+  within-seen (join k C A B) h = rw (within-seen A (h .0), within-seen B (h .1), rows-count (join k C A B) h)
+
+  -- ---- the direct reading
+
+  few-each : (t : ℕ) → database r .rowCount t ≤ 256
+  unfolding database databaseOf
+  few-each t = rows-limit r (rw (p .fits) tt) t
+
+  -- every join on the way has at most 256 rows exactly if question 11 is answered yes
+  pub within-eleven : within256 W (joinTree q) ≡ question11Direct r
+  unfolding question11Direct withinLimit results joinTree joinTrees
+  within-eleven =
+      within-seen (joinTree q) query-tree
+      ∙ same-test (within256 (database r) (joinTree q)) (all (λ (rows : List Row). leb (length rows) 256) (results r (joinTrees q)))
+      (λ h. whole-results (database r) few-each q (query-matched q ok) (query-built q ok) h)
+      (λ h. results-whole (database r) few-each q (query-matched q ok) (query-built q ok) h)
+
+  -- the rows that are handed over
+  pub direct-count : length (ordered (rowsOf W (joinTree q))) ≡ length (directRows r)
+  unfolding directRows finished
+  direct-count =
+      count-seen ls (early p) few (few-cells ls (p .fits)) (p .even) numbered more small (joinTree q) query-tree []
+
+  pub direct-numbers : flatMap (take (tableCount q)) (ordered (rowsOf W (joinTree q))) ≡ flatMap (λ (row : Row). row) (directRows r)
+  unfolding directRows finished
+  direct-numbers =
+      numbers-seen ls (early p) few (few-cells ls (p .fits)) (p .even) numbered more small (joinTree q) query-tree []

@@ -1,0 +1,64 @@
+// The direct reading of a text: document 01, "The tree read directly".
+use crate::answer::Answer;
+use joins::join::Joined;
+use plan::query::StoredQuery;
+use reader::read::Outcome;
+ghost use mathlib.Core.Path.{_≡_};
+ghost use mathlib.Core.Bool.{true, false};
+ghost use Prim.Native.Nat.{_≤_};
+ghost use lib.ListN.{length};
+ghost use Rattle.plan.specs.Counted.{Counted};
+ghost use Rattle.joins.specs.Work.{workspace};
+ghost use Rattle.run.specs.Reading.{Readable};
+ghost use Rattle.engine.specs.Answers.{directOutcome};
+ghost use Rattle.engine.specs.Calls.{directCall};
+ghost use Rattle.engine.specs.Gave.{Gave, TreeRead};
+
+// Questions 8 and 11 of a query, and its rows.
+pub fn read_tree(q: StoredQuery, cells: &[i32], work: &mut [u16], result: &mut [u16]) -> Answer
+    requires { ⌜ Counted q × Readable q × (1 ≤ q .«table_count») × (16384 ≤ length (now work)) × (2048 ≤ length (now result)) ⌝ }
+    ensures { λ r. ⌜ TreeRead (workspace (now (cells .entry)) (q .layout) (q .conditions)) q (now (result .entry)) (now (result .exit)) r ⌝ }
+{
+    if !plan::simplified::is_simplified(q) {
+        return Answer::Refused(8);
+    }
+    let r = run::direct::direct(cells, q, work, result);
+    match r {
+        Joined::Rows(n) => Answer::Rows(n),
+        Joined::TooMany => Answer::Refused(11),
+    }
+}
+
+// Questions 2 to 8 and 11 of a text, and its rows. The cell run and the work buffer are left as they come.
+pub fn read_text(text: &[u8], cells: &mut [i32], work: &mut [u16], result: &mut [u16]) -> Answer
+    requires { ⌜ (4096 ≤ length (now cells)) × (16384 ≤ length (now work)) × (2048 ≤ length (now result)) ⌝ }
+    ensures { λ r. ⌜ Gave (directOutcome (now (text .entry))) (now (result .entry)) (now (result .exit)) r ⌝ }
+{
+    let a = accept::accept::accept(text, cells);
+    let outcome = a.outcome;
+    let q = a.query;
+    match outcome {
+        Outcome::Refused(n) => Answer::Refused(n),
+        Outcome::Accepted => read_tree(q, cells, work, result),
+    }
+}
+
+// The direct reading: a call's answer and all lent memory are those of `directCall`, whatever is lent.
+pub fn direct(text: &[u8], cells: &mut [i32], work: &mut [u16], result: &mut [u16]) -> Answer
+    ensures { λ r. ⌜ record { answer = r; lent = record { cells = now (cells .exit); work = now (work .exit); result = now (result .exit) } }
+        ≡ directCall (now (text .entry)) (record { cells = now (cells .entry); work = now (work .entry); result = now (result .entry) }) ⌝ }
+{
+    if work.len() < 16384 {
+        return Answer::Refused(1);
+    }
+    if result.len() < 2048 {
+        return Answer::Refused(1);
+    }
+    if cells.len() < 4096 {
+        return Answer::Refused(1);
+    }
+    let a = read_text(text, cells, work, result);
+    crate::clear::clear_work(work);
+    crate::clear::clear_cells(cells);
+    a
+}
