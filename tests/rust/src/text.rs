@@ -1,0 +1,262 @@
+//! The report text, read in one pass: questions 2 to 4.
+
+use crate::{BLANK, CELLS, COLUMNS, CONDITIONS, ROWS, TABLES, TEXT};
+
+/// The first `N` items of a list, and how many there are in all.
+pub struct Bounded<T, const N: usize> {
+    items: [T; N],
+    len: usize,
+}
+
+impl<T: Copy + Default, const N: usize> Bounded<T, N> {
+    fn new() -> Self {
+        Bounded { items: [T::default(); N], len: 0 }
+    }
+
+    fn push(&mut self, item: T) {
+        if let Some(place) = self.items.get_mut(self.len) {
+            *place = item;
+        }
+        self.len += 1;
+    }
+
+    /// The latest item, unless it had no room.
+    fn latest(&mut self) -> Option<&mut T> {
+        self.items.get_mut(self.len.wrapping_sub(1))
+    }
+
+    pub fn len(&self) -> usize {
+        self.len
+    }
+
+    pub fn as_slice(&self) -> &[T] {
+        &self.items[..self.len.min(N)]
+    }
+}
+
+/// The table's cells begin at `start` in the cell run.
+#[derive(Clone, Copy, Default)]
+pub struct Table {
+    pub columns: usize,
+    pub rows: usize,
+    pub start: usize,
+}
+
+#[derive(Clone, Copy, Default)]
+pub struct Column {
+    pub table: usize,
+    pub column: usize,
+}
+
+#[derive(Clone, Copy)]
+pub enum Operand {
+    Column(Column),
+    Constant(i32),
+}
+
+/// The operator's code has bit 0 where it is true of less, bit 1 of equal, bit 2 of greater.
+#[derive(Clone, Copy)]
+pub struct Condition {
+    pub first: Column,
+    pub operator: u8,
+    pub second: Operand,
+}
+
+impl Default for Condition {
+    fn default() -> Self {
+        Condition { first: Column::default(), operator: 0, second: Operand::Constant(0) }
+    }
+}
+
+#[derive(Clone, Copy, Default)]
+pub struct Join {
+    pub outer: bool,
+    pub sides: (u16, u16),
+    /// Bit i for condition number i.
+    pub conditions: u64,
+}
+
+pub struct Query {
+    pub tables: Bounded<Table, TABLES>,
+    pub joins: Bounded<Join, { TABLES - 1 }>,
+    pub conditions: Bounded<Condition, CONDITIONS>,
+    pub order: Bounded<(u16, u16), { TABLES - 1 }>,
+    /// Cells written in all, and whether each row has its table's width.
+    cells: usize,
+    even: bool,
+}
+
+#[derive(PartialEq, PartialOrd)]
+enum Part {
+    Tables,
+    Joins,
+    Order,
+}
+
+impl Query {
+    /// Reads the text and puts the cells into the cell run.
+    pub fn read(text: &[u8], run: &mut [i32]) -> Result<Query, u8> {
+        if text.len() > TEXT {
+            return Err(2);
+        }
+        let query = Query::lines(text, run).ok_or(2)?;
+        let tables = query.tables.as_slice();
+        let fits = |t: &Table| (1..=COLUMNS).contains(&t.columns) && t.rows <= ROWS;
+        if !(1..=TABLES).contains(&query.tables.len()) || !tables.iter().all(fits) || query.cells > CELLS {
+            return Err(3);
+        }
+        if query.even { Ok(query) } else { Err(4) }
+    }
+
+    /// `None` if a line has no form or is out of place.
+    fn lines(text: &[u8], run: &mut [i32]) -> Option<Query> {
+        let mut query = Query {
+            tables: Bounded::new(),
+            joins: Bounded::new(),
+            conditions: Bounded::new(),
+            order: Bounded::new(),
+            cells: 0,
+            even: true,
+        };
+        let mut cursor = Cursor { text, at: 0 };
+        let mut part = Part::Tables;
+        while cursor.at < text.len() {
+            match cursor.next() {
+                b'T' if part == Part::Tables => {
+                    query.tables.push(Table { columns: cursor.field()?.into(), rows: 0, start: query.cells });
+                }
+                b'D' if part == Part::Tables && query.tables.len() > 0 => {
+                    query.row(&mut cursor, run)?;
+                }
+                b'J' if part <= Part::Joins => {
+                    part = Part::Joins;
+                    let outer = cursor.join_kind()?;
+                    let sides = (cursor.field()?, cursor.field()?);
+                    query.joins.push(Join { outer, sides, conditions: 0 });
+                }
+                letter @ (b'C' | b'K') if part == Part::Joins => {
+                    let first = cursor.column()?;
+                    let operator = cursor.operator()?;
+                    let second = match letter {
+                        b'C' => Operand::Column(cursor.column()?),
+                        _ => Operand::Constant(cursor.cell().filter(|&c| c != BLANK)?),
+                    };
+                    let bit = 1u64.checked_shl(query.conditions.len() as u32).unwrap_or(0);
+                    if let Some(join) = query.joins.latest() {
+                        join.conditions |= bit;
+                    }
+                    query.conditions.push(Condition { first, operator, second });
+                }
+                b'P' => {
+                    part = Part::Order;
+                    query.order.push((cursor.field()?, cursor.field()?));
+                }
+                _ => return None,
+            }
+            cursor.take(b'\n')?;
+        }
+        Some(query)
+    }
+
+    /// One row of the latest table.
+    fn row(&mut self, cursor: &mut Cursor, run: &mut [i32]) -> Option<()> {
+        let start = self.cells;
+        loop {
+            let cell = cursor.cell()?;
+            if self.cells < CELLS {
+                run[self.cells] = cell;
+            }
+            self.cells += 1;
+            if cursor.peek() == b'\n' {
+                break;
+            }
+        }
+        if let Some(table) = self.tables.latest() {
+            table.rows += 1;
+            self.even &= self.cells - start == table.columns;
+        }
+        Some(())
+    }
+}
+
+/// A place in the text. Its functions give `None` where the text has not the form they look for.
+struct Cursor<'a> {
+    text: &'a [u8],
+    at: usize,
+}
+
+impl Cursor<'_> {
+    /// The next byte; at the end of the text 0, which no form has.
+    fn peek(&self) -> u8 {
+        self.text.get(self.at).copied().unwrap_or(0)
+    }
+
+    fn next(&mut self) -> u8 {
+        let byte = self.peek();
+        self.at += 1;
+        byte
+    }
+
+    fn take(&mut self, byte: u8) -> Option<()> {
+        (self.next() == byte).then_some(())
+    }
+
+    /// A number of at most `most` digits. A digit after these is found by whoever takes the next tab or line feed.
+    fn digits(&mut self, most: usize) -> Option<u64> {
+        let start = self.at;
+        let mut value = 0;
+        while self.at - start < most && self.peek().is_ascii_digit() {
+            value = 10 * value + u64::from(self.next() - b'0');
+        }
+        let length = self.at - start;
+        (length == 1 || length > 1 && self.text[start] != b'0').then_some(value)
+    }
+
+    /// A tab and a count, table, column or node.
+    fn field(&mut self) -> Option<u16> {
+        self.take(b'\t')?;
+        self.digits(4).map(|value| value as u16)
+    }
+
+    fn column(&mut self) -> Option<Column> {
+        Some(Column { table: self.field()?.into(), column: self.field()?.into() })
+    }
+
+    /// A tab and a cell.
+    fn cell(&mut self) -> Option<i32> {
+        self.take(b'\t')?;
+        if self.peek() != b'-' {
+            return self.digits(10).and_then(|value| i32::try_from(value).ok());
+        }
+        self.next();
+        if matches!(self.peek(), b'\t' | b'\n') {
+            return Some(BLANK);
+        }
+        let value = i32::try_from(self.digits(10)?).ok()?;
+        (value != 0).then_some(-value)
+    }
+
+    /// A tab and a join's kind; whether it is outer.
+    fn join_kind(&mut self) -> Option<bool> {
+        self.take(b'\t')?;
+        match self.next() {
+            b'I' => Some(false),
+            b'L' => Some(true),
+            _ => None,
+        }
+    }
+
+    /// A tab and an operator; its code.
+    fn operator(&mut self) -> Option<u8> {
+        self.take(b'\t')?;
+        let (code, more): (u8, &[(u8, u8)]) = match self.next() {
+            b'<' => (1, &[(b'=', 3), (b'>', 5)]),
+            b'=' => (2, &[]),
+            b'>' => (4, &[(b'=', 6)]),
+            _ => return None,
+        };
+        let longer = more.iter().find(|&&(byte, _)| byte == self.peek());
+        self.at += longer.map_or(0, |_| 1);
+        Some(longer.map_or(code, |&(_, code)| code))
+    }
+}

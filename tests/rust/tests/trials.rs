@@ -1,0 +1,168 @@
+//! The trials of document 01, worked out by hand. In these texts a bar stands for a tab and a space ends a line.
+
+use hashjoin::lent::{LEAST, Lent, MARK};
+use hashjoin::{NO_ROW, Step, print_direct, print_report};
+
+fn text(lines: &str) -> Vec<u8> {
+    lines.split_whitespace().flat_map(|line| [&line.replace('|', "\t"), "\n"].concat().into_bytes()).collect()
+}
+
+#[track_caller]
+fn prints(input: &str, expected_report: &str, expected_direct: &str) {
+    let input = text(input);
+    let shown = |print: Vec<u8>| String::from_utf8(print).unwrap().replace('\t', "|").replace('\n', " ");
+    assert_eq!(shown(print_report(&input)).trim(), expected_report, "report");
+    assert_eq!(shown(print_direct(&input)).trim(), expected_direct, "direct");
+}
+
+#[track_caller]
+fn refused(input: &str, question: u8) {
+    let refusal = format!("E|{question}");
+    prints(input, &refusal, &refusal);
+}
+
+const TABLES: &str = "T|2 D|10|1 D|11|2 T|2 D|10|7 D|11|8 T|1 D|7";
+const TABLES_0_EMPTY: &str = "T|2 T|2 D|10|7 D|11|8 T|1 D|7";
+const TABLES_2_EMPTY: &str = "T|2 D|10|1 D|11|2 T|2 D|10|7 D|11|8 T|1";
+const JOINS: &str = "J|I|1|2 C|1|1|=|2|0 J|L|0|3 C|0|0|=|1|0";
+const ORDER: &str = "P|0|1 P|3|2";
+const OTHER_ORDER: &str = "P|0|2 P|3|1";
+const SETS: &str = "S|0 S|1|0|1 S|2|0|1";
+
+fn document(tables: &str, order: &str) -> String {
+    [tables, JOINS, order].join(" ")
+}
+
+#[test]
+fn the_report_of_the_document() {
+    let rows = "R|0|0|0 R|1|-|-";
+    let steps = "M|L|0|1|2|1 M|L|3|2|2|0 B|1|0 Z";
+    prints(&document(TABLES, ORDER), &[SETS, steps, rows].join(" "), rows);
+    let steps = "M|O|0|2|2 M|L|3|1|2|0|1 B|2|0|1 Z";
+    prints(&document(TABLES, OTHER_ORDER), &[SETS, steps, rows].join(" "), rows);
+}
+
+#[test]
+fn a_table_emptied() {
+    // Table 0 is preserved at the first pair and has no rows.
+    prints(&document(TABLES_0_EMPTY, ORDER), &[SETS, "M|L|0|1|0|1 M|L|3|2|0|0 B|1|0 Z"].join(" "), "");
+    // The product keeps the row of table 2, which the blanking step takes away.
+    prints(&document(TABLES_0_EMPTY, OTHER_ORDER), &[SETS, "M|O|0|2|1 M|L|3|1|1|0|1 B|2|0|1 Z"].join(" "), "");
+    let rows = "R|0|-|- R|1|-|-";
+    prints(&document(TABLES_2_EMPTY, ORDER), &[SETS, "M|L|0|1|2|1 M|L|3|2|2|0 B|1|0 Z", rows].join(" "), rows);
+    prints(&document(TABLES_2_EMPTY, OTHER_ORDER), &[SETS, "M|O|0|2|2 M|L|3|1|2|0|1 B|2|0|1 Z", rows].join(" "), rows);
+}
+
+#[test]
+fn a_lone_table_and_none() {
+    prints("T|1 D|5 D|5", "S|0 R|0 R|1", "R|0 R|1");
+    refused("", 3);
+}
+
+#[test]
+fn blank_is_unequal_to_nothing() {
+    let rows = "R|0|0 R|1|-";
+    let print = ["S|0 S|1|0 M|L|0|1|2|0", rows].join(" ");
+    prints("T|1 D|6 D|- T|1 D|5 J|L|0|1 C|0|0|<>|1|0", &print, rows);
+}
+
+#[test]
+fn the_lowest_cell() {
+    prints("T|1 D|-2147483647", "S|0 R|0", "R|0");
+    refused("T|1 D|-2147483648", 2);
+}
+
+#[test]
+fn a_tree_that_is_not_simplified() {
+    let tables = "T|1 D|1 T|1 D|1 T|1 D|1";
+    refused(&[tables, "J|L|0|1 C|0|0|=|1|0 J|I|3|2 C|1|0|=|2|0"].join(" "), 8);
+    prints(
+        &[tables, "J|L|0|1 C|0|0|=|1|0 J|I|3|2 C|0|0|=|2|0"].join(" "),
+        "S|0|1 S|1|0|1 S|2|1 M|L|0|1|1|0 M|I|3|2|1|1 R|0|0|0",
+        "R|0|0|0",
+    );
+}
+
+#[test]
+fn joins_that_are_refused() {
+    refused("T|1 T|1 J|I|0|1 K|0|0|=|1", 7);
+    refused("T|1 T|1 J|I|0|0 C|0|0|=|1|0", 5);
+    prints("T|1 T|1 T|1 J|I|0|1 C|0|0|=|1|0 J|I|2|3 C|2|0|=|0|0 P|0|1", "E|9", "");
+}
+
+/// Two tables whose rows all match.
+fn all_match(left: usize, right: usize) -> String {
+    let rows = |count| "D|1 ".repeat(count);
+    format!("T|1 {}T|1 {}J|I|0|1 C|0|0|=|1|0", rows(left), rows(right))
+}
+
+#[test]
+fn limits() {
+    let lines = |print: Vec<u8>| print.split(|&byte| byte == b'\n').count() - 1;
+    assert_eq!(lines(print_direct(&text(&all_match(16, 16)))), 256);
+    assert_eq!(lines(print_report(&text(&all_match(16, 16)))), 256 + 3);
+    refused(&all_match(16, 17), 11);
+    assert_eq!(lines(print_direct(&text(&format!("T|1 {}", "D|0 ".repeat(256))))), 256);
+    refused(&format!("T|1 {}", "D|0 ".repeat(257)), 3);
+    let conditions = |count| format!("T|1 T|1 J|I|0|1 {}", "C|0|0|=|1|0 ".repeat(count));
+    assert_eq!(lines(print_direct(&text(&conditions(32)))), 0);
+    refused(&conditions(33), 6);
+}
+
+/// Whether the work buffer and the cell run are filled with 0.
+fn cleared(lent: &Lent) -> bool {
+    lent.cells.iter().all(|&number| number == 0) && lent.work.iter().all(|&number| number == 0)
+}
+
+#[test]
+fn short_buffers() {
+    let input = text(&document(TABLES, ORDER));
+    for short in 0..LEAST.len() {
+        for size in [0, LEAST[short] - 1] {
+            let mut sizes = LEAST.map(|least| least + 1);
+            sizes[short] = size;
+            let mut lent = Lent::marked(sizes);
+            assert_eq!(lent.report(&input), Err(1));
+            assert!(lent == Lent::marked(sizes));
+            // No step list is lent for the direct reading.
+            if short < 3 {
+                assert_eq!(lent.direct(&input), Err(1));
+                assert!(lent == Lent::marked(sizes));
+            }
+        }
+    }
+}
+
+#[test]
+fn what_the_buffers_hold_afterwards() {
+    let input = text(&document(TABLES, ORDER));
+    let numbers = [0, 0, 0, 1, NO_ROW, NO_ROW];
+    for more in [0, 5] {
+        let sizes = LEAST.map(|least| least + more);
+        let mut lent = Lent::marked(sizes);
+        let rows = lent.report(&input).unwrap();
+        assert_eq!((rows.rows, rows.tables, rows.sets), (2, 3, [0, 3, 3, 0, 0, 0, 0, 0]));
+        let step = |kind, first, second, rows, conditions| Step { kind, first, second, rows, conditions };
+        let plan = [step(2, 0, 1, 2, 2), step(2, 3, 2, 2, 1), step(4, 1, 0, 0, 1), step(5, 0, 0, 0, 0)];
+        assert_eq!(lent.steps[..4], plan);
+        assert!(lent.steps[4..].iter().all(|&step| step == Step::default()));
+        assert_eq!(lent.result[..6], numbers);
+        assert!(lent.result[6..].iter().all(|&number| number == MARK));
+        assert!(cleared(&lent));
+
+        let mut lent = Lent::marked(sizes);
+        let rows = lent.direct(&input).unwrap();
+        assert_eq!((rows.rows, rows.sets), (2, [0; 8]));
+        assert_eq!(lent.result[..6], numbers);
+        assert!(lent.result[6..].iter().all(|&number| number == MARK));
+        assert!(cleared(&lent));
+
+        for refused in ["X", "", "T|1 D|1 P|0|0", &all_match(16, 17)] {
+            let mut lent = Lent::marked(sizes);
+            assert!(lent.report(&text(refused)).is_err());
+            assert!(lent.steps.iter().all(|&step| step == Step::default()));
+            assert!(lent.result.iter().all(|&number| number == MARK));
+            assert!(cleared(&lent));
+        }
+    }
+}
