@@ -4,6 +4,7 @@
 //! proved engine's speed is measured against. All memory is lent by the caller.
 
 mod execute;
+pub mod generate;
 pub mod lent;
 mod plan;
 mod print;

@@ -1,0 +1,167 @@
+//! Faults that turn a valid report into one that questions 3 to 9 and 11 turn down.
+
+use super::Random;
+use super::reports::{Other, Report, Table};
+use crate::{CELLS, CONDITIONS, ROWS, TABLES};
+
+/// Adds one fault, where the report has a place for it.
+pub fn add(report: &mut Report, random: &mut Random) {
+    match random.below(8) {
+        0 => size(report, random),
+        1 => width(report, random),
+        2 => tree(report, random),
+        3 => condition(report, random),
+        4 => no_link(report, random),
+        5 => not_simplified(report, random),
+        6 => order(report, random),
+        _ => many_rows(report, random),
+    }
+}
+
+/// Question 3.
+fn size(report: &mut Report, random: &mut Random) {
+    if report.tables.is_empty() {
+        return;
+    }
+    let at = random.below(report.tables.len());
+    let table = &mut report.tables[at];
+    match random.below(5) {
+        0 => report.tables.clear(),
+        1 => report.tables.resize(TABLES + 1, Table { columns: 1, rows: vec![] }),
+        2 => table.columns = random.pick(&[0, 9, 10, 256, 9999]),
+        3 => table.rows.resize(ROWS + 1, vec![0; table.columns]),
+        _ => table.rows.push(vec![0; CELLS + 1]),
+    }
+}
+
+/// Question 4.
+fn width(report: &mut Report, random: &mut Random) {
+    let rows: Vec<_> = report.tables.iter_mut().flat_map(|table| &mut table.rows).collect();
+    if rows.is_empty() {
+        return;
+    }
+    let at = random.below(rows.len());
+    let row = rows.into_iter().nth(at).unwrap();
+    if row.len() > 1 && random.one_in(2) {
+        row.pop();
+    } else {
+        row.extend(vec![0; 1 + random.below(9)]);
+    }
+}
+
+/// Question 5.
+fn tree(report: &mut Report, random: &mut Random) {
+    if report.joins.is_empty() {
+        return;
+    }
+    let at = random.below(report.joins.len());
+    match random.below(4) {
+        0 => drop(report.joins.remove(at)),
+        1 => report.joins.push(report.joins[at].clone()),
+        _ => {
+            let node = report.tables.len() + at;
+            report.joins[at].sides[random.below(2)] = side(node, random);
+        }
+    }
+}
+
+/// Question 9.
+fn order(report: &mut Report, random: &mut Random) {
+    if report.order.is_empty() || random.one_in(4) {
+        return report.order.push([0, 1]);
+    }
+    let at = random.below(report.order.len());
+    if random.one_in(4) {
+        report.order.remove(at);
+    } else {
+        report.order[at][random.below(2)] = side(report.tables.len() + at, random);
+    }
+}
+
+/// A side that the join or pair with this node should not have, or that another may have already.
+fn side(node: usize, random: &mut Random) -> usize {
+    match random.below(4) {
+        0 => node,
+        1 => random.pick(&[node + 1, 15, 16, 64, 256, 9999]),
+        _ => random.below(node.max(1)),
+    }
+}
+
+/// Question 6.
+fn condition(report: &mut Report, random: &mut Random) {
+    let tables = report.tables.len();
+    if report.joins.is_empty() {
+        return;
+    }
+    let at = random.below(report.joins.len());
+    let join = &mut report.joins[at];
+    if random.one_in(6) {
+        let condition = join.conditions[0];
+        return join.conditions.resize(CONDITIONS + 1, condition);
+    }
+    let at = random.below(join.conditions.len());
+    let condition = &mut join.conditions[at];
+    let table = random.pick(&[tables, 64, 9999, 0, tables.max(1) - 1]);
+    let column = random.pick(&[8, 3, 2, 9999]);
+    match (random.below(5), &mut condition.other) {
+        (0, _) => condition.table = table,
+        (1, _) => condition.column = column,
+        (2, Other::Column(second, _)) => *second = table,
+        (3, Other::Column(_, of_second)) => *of_second = column,
+        (_, other) => *other = Other::Column(condition.table, condition.column),
+    }
+}
+
+/// Question 7: no condition is between the sides.
+fn no_link(report: &mut Report, random: &mut Random) {
+    if report.joins.is_empty() || report.tables.iter().any(|table| table.columns == 0) {
+        return;
+    }
+    let at = random.below(report.joins.len());
+    let side = report.joins[at].allowed[random.below(2)].clone();
+    if side.iter().any(|&table| table >= report.tables.len()) {
+        return;
+    }
+    let condition = if side.len() > 1 && random.one_in(2) {
+        report.one_sided(&side, random)
+    } else {
+        report.constant(side[0], 0, random)
+    };
+    report.joins[at].conditions.fill(condition);
+}
+
+/// Question 8: a condition names a table that it may not.
+fn not_simplified(report: &mut Report, random: &mut Random) {
+    let mut places = vec![];
+    for (at, join) in report.joins.iter().enumerate() {
+        for (under, allowed) in join.under.iter().zip(&join.allowed) {
+            places.extend(under.iter().filter(|table| !allowed.contains(table)).map(|&table| (at, table)));
+        }
+    }
+    if places.is_empty() {
+        return;
+    }
+    let (at, table) = random.pick(&places);
+    let join = &mut report.joins[at];
+    let condition = random.below(join.conditions.len());
+    let condition = &mut join.conditions[condition];
+    match &mut condition.other {
+        Other::Column(second, column) if random.one_in(2) => (*second, *column) = (table, 0),
+        _ => (condition.table, condition.column) = (table, 0),
+    }
+}
+
+/// Question 11: all rows match. An empty table leaves it to the order whether a result is too long.
+fn many_rows(report: &mut Report, random: &mut Random) {
+    let rows = 10 + random.below(30);
+    for table in &mut report.tables {
+        let rows = if random.one_in(8) { 0 } else { rows };
+        table.rows = vec![vec![0; table.columns.max(1)]; rows];
+    }
+    for condition in report.joins.iter_mut().flat_map(|join| &mut join.conditions) {
+        condition.operator = random.pick(&["=", "<=", ">="]);
+        if let Other::Constant(number) = &mut condition.other {
+            *number = 0;
+        }
+    }
+}

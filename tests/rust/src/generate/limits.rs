@@ -1,0 +1,160 @@
+//! Reports at each limit, and one past it.
+
+use super::reports::{Condition, Join, Other, Report, Table};
+use crate::TEXT;
+
+pub fn each(take: &mut dyn FnMut(&[u8])) {
+    for report in reports() {
+        take(&report.text());
+    }
+    for length in [TEXT - 1, TEXT, TEXT + 1, TEXT + 2] {
+        take(&text_of(length));
+    }
+    take(b"");
+    take(&b"\n".repeat(TEXT + 1));
+}
+
+fn reports() -> Vec<Report> {
+    let mut reports = vec![];
+    for rows in [0, 255, 256, 257] {
+        reports.push(chain(vec![constant(1, rows)], true));
+        reports.push(chain(vec![constant(1, 1), constant(2, rows)], false));
+    }
+    for tables in 1..=9 {
+        for outer in [false, true] {
+            reports.push(chain(vec![counted(1, 3); tables], outer));
+        }
+    }
+    for columns in [1, 7, 8, 9] {
+        reports.push(chain(vec![counted(columns, 2); 2], false));
+    }
+    for conditions in [31, 32, 33, 63, 64, 65, 256, 257, 288] {
+        for tables in [2, 3] {
+            let mut report = chain(vec![counted(1, 2); tables], true);
+            let last = report.joins.last_mut().unwrap();
+            let condition = last.conditions[0];
+            last.conditions.resize(conditions + 2 - tables, condition);
+            reports.push(report);
+        }
+    }
+    reports.extend([(3, 255), (4, 0), (4, 1)].map(|(wide, last)| cells(wide, last)));
+    reports.extend(
+        [(16, 16), (1, 256), (256, 1), (16, 17), (128, 2), (2, 129), (256, 256)]
+            .map(|(left, right)| chain(vec![constant(1, left), constant(1, right)], false)),
+    );
+    for rest in 0..=2 {
+        reports.push(all_but(rest));
+    }
+    for [first, second, third] in [[16, 16, 0], [16, 16, 1], [16, 17, 0], [17, 17, 1], [4, 8, 8], [4, 8, 9]] {
+        reports.extend(three(first, second, third));
+    }
+    reports.extend(past_a_byte());
+    reports.push(longest_plan());
+    reports
+}
+
+/// Counts that a byte cannot hold, each beside one that would be right.
+fn past_a_byte() -> Vec<Report> {
+    let mut reports = vec![];
+    let two = || chain(vec![counted(1, 2); 2], false);
+    reports.push(Report { tables: vec![counted(1, 0); 256 + 2], ..two() });
+    reports.push(chain(vec![counted(257, 1); 2], false));
+    reports.push(chain(vec![constant(1, 512 + 3)], false));
+    reports.push(Report { joins: vec![two().joins[0].clone(); 256 + 1], ..two() });
+    reports.push(Report { order: vec![[0, 1]; 256 + 1], ..two() });
+    for cells in [9, 257, 4096, 8170] {
+        let mut report = two();
+        report.tables[0].rows = vec![vec![0; cells]];
+        reports.push(report);
+    }
+    for node in [255, 256, 258] {
+        reports.push(Report { order: vec![[node, 1]], ..two() });
+        let mut report = two();
+        report.joins[0].sides[0] = node;
+        reports.push(report);
+        let mut report = two();
+        report.joins[0].conditions[0].table = node;
+        reports.push(report);
+        let mut report = two();
+        report.joins[0].conditions[0].column = node;
+        reports.push(report);
+    }
+    reports
+}
+
+/// Eight tables whose plan has sixteen steps: a K line of the last inner join blanks every table.
+fn longest_plan() -> Report {
+    let mut report = chain(vec![counted(1, 3); 8], false);
+    let constant = Condition { table: 0, column: 0, operator: ">", other: Other::Constant(0) };
+    report.joins.last_mut().unwrap().conditions.push(constant);
+    report
+}
+
+/// A table whose column 0 counts the rows.
+fn counted(columns: usize, rows: usize) -> Table {
+    let row = |number| (0..columns).map(|column| if column == 0 { number as i32 } else { 1 }).collect();
+    Table { columns, rows: (0..rows).map(row).collect() }
+}
+
+/// A table whose cells are all equal.
+fn constant(columns: usize, rows: usize) -> Table {
+    Table { columns, rows: vec![vec![1; columns]; rows] }
+}
+
+/// The tables joined one after the other, each to the one before it by its last column.
+fn chain(tables: Vec<Table>, outer: bool) -> Report {
+    let count = tables.len();
+    let joins = (1..count).map(|table| {
+        let left = if table == 1 { 0 } else { count + table - 2 };
+        join(outer, [left, table], [table - 1, table], |table| tables[table].columns - 1)
+    });
+    let joins = joins.collect();
+    Report { tables, joins, order: vec![] }
+}
+
+/// A join by one equality of a column of each of two tables.
+fn join(outer: bool, sides: [usize; 2], [first, second]: [usize; 2], column: impl Fn(usize) -> usize) -> Join {
+    let other = Other::Column(second, column(second));
+    let condition = Condition { table: first, column: column(first), operator: "=", other };
+    Join { outer, sides, under: Default::default(), allowed: Default::default(), conditions: vec![condition] }
+}
+
+/// Eight tables of 3072 + 256 * `wide` + `last` cells, each joined to the first by its row number.
+fn cells(wide: usize, last: usize) -> Report {
+    let mut tables = vec![counted(8, 64); 6];
+    tables.extend([counted(wide, 256), counted(1, last)]);
+    let left = |table| if table == 1 { 0 } else { 6 + table };
+    let joins = (1..8).map(|table| join(true, [left(table), table], [0, table], |_| 0)).collect();
+    Report { tables, joins, order: vec![] }
+}
+
+/// An outer join of 256 pairs of rows, and so many left rows without a partner.
+fn all_but(rest: usize) -> Report {
+    let mut report = chain(vec![constant(1, 16), constant(1, 16)], true);
+    report.tables[0].rows.extend(vec![vec![2]; rest]);
+    report
+}
+
+/// Three tables whose rows all match: every join kind, every order.
+fn three(first: usize, second: usize, third: usize) -> Vec<Report> {
+    let tables = vec![constant(1, first), constant(1, second), constant(1, third)];
+    let mut reports = vec![];
+    for outer in [false, true] {
+        for order in [vec![], vec![[0, 1], [3, 2]], vec![[0, 2], [1, 3]], vec![[1, 2], [0, 3]]] {
+            reports.push(Report { order, ..chain(tables.clone(), outer) });
+        }
+    }
+    reports
+}
+
+/// A text of so many bytes: a table of 256 rows whose cells are as long as that takes.
+fn text_of(length: usize) -> Vec<u8> {
+    let mut report = chain(vec![constant(8, 256)], false);
+    let mut missing = length - report.text().len();
+    for cell in report.tables[0].rows.iter_mut().flatten() {
+        let digits = missing.min(8);
+        *cell *= 10_i32.pow(digits as u32);
+        missing -= digits;
+    }
+    report.text()
+}

@@ -1,0 +1,223 @@
+//! Valid reports.
+
+use super::Random;
+use crate::BLANK;
+use std::fmt::Write;
+
+pub const OPERATORS: [&str; 6] = ["<", "=", "<=", ">", "<>", ">="];
+const EQUAL: &str = "=";
+
+#[derive(Clone, Default)]
+pub struct Table {
+    pub columns: usize,
+    pub rows: Vec<Vec<i32>>,
+}
+
+#[derive(Clone, Copy)]
+pub enum Other {
+    Column(usize, usize),
+    Constant(i32),
+}
+
+#[derive(Clone, Copy)]
+pub struct Condition {
+    pub table: usize,
+    pub column: usize,
+    pub operator: &'static str,
+    pub other: Other,
+}
+
+#[derive(Clone)]
+pub struct Join {
+    pub outer: bool,
+    pub sides: [usize; 2],
+    /// The tables under each side, and those that its conditions may name (question 8).
+    pub under: [Vec<usize>; 2],
+    pub allowed: [Vec<usize>; 2],
+    pub conditions: Vec<Condition>,
+}
+
+#[derive(Clone, Default)]
+pub struct Report {
+    pub tables: Vec<Table>,
+    pub joins: Vec<Join>,
+    pub order: Vec<[usize; 2]>,
+}
+
+/// A node of a tree that is being made: its number, its tables, and those in the right side of an outer join.
+struct Node {
+    number: usize,
+    tables: Vec<usize>,
+    nullable: Vec<usize>,
+}
+
+impl Report {
+    /// A report that questions 2 to 10 let pass.
+    pub fn random(random: &mut Random) -> Report {
+        let count = random.pick(&[1, 2, 2, 3, 3, 3, 4, 4, 4, 5, 5, 6, 6, 7, 8]);
+        // Many rows go with many values, so that results stay small.
+        let (rows, values) = match random.below(6) {
+            0 => ([60, 60, 40, 25, 20, 15, 10, 10][count - 1], 40),
+            1 => (2, 1),
+            _ => ([12, 9, 6, 5, 4, 3, 3, 3][count - 1], 1 + random.below(5)),
+        };
+        let mut report = Report::default();
+        for _ in 0..count {
+            report.tables.push(table(rows, values, random));
+        }
+        report.add_joins(values, random);
+        match random.below(8) {
+            0 | 1 => (),
+            2 => report.order = report.joins.iter().map(|join| join.sides).collect(),
+            _ => report.order = order(count, random),
+        }
+        report
+    }
+
+    fn add_joins(&mut self, values: usize, random: &mut Random) {
+        let count = self.tables.len();
+        let outer_chances = random.pick(&[1, 2, 2, 2, 4, 100]);
+        let mut roots: Vec<Node> =
+            (0..count).map(|table| Node { number: table, tables: vec![table], nullable: vec![] }).collect();
+        for number in count..2 * count - 1 {
+            let (left, right) = (take(&mut roots, random), take(&mut roots, random));
+            let outer = random.one_in(outer_chances);
+            let without = |node: &Node| {
+                node.tables.iter().copied().filter(|table| !node.nullable.contains(table)).collect::<Vec<_>>()
+            };
+            let allowed = [if outer { left.tables.clone() } else { without(&left) }, without(&right)];
+            let nullable = [left.nullable, if outer { right.tables.clone() } else { right.nullable }].concat();
+            let tables = [&left.tables[..], &right.tables].concat();
+            let mut join = Join {
+                outer,
+                sides: [left.number, right.number],
+                under: [left.tables, right.tables],
+                allowed,
+                conditions: vec![],
+            };
+            let between = self.between(&join, random);
+            join.conditions.push(between);
+            while random.one_in(3) {
+                let more = self.condition(&join, values, random);
+                let place = random.below(join.conditions.len() + 1);
+                join.conditions.insert(place, more);
+            }
+            self.joins.push(join);
+            roots.push(Node { number, tables, nullable });
+        }
+    }
+
+    /// A condition between the join's sides.
+    pub fn between(&self, join: &Join, random: &mut Random) -> Condition {
+        let mut sides = [random.pick(&join.allowed[0]), random.pick(&join.allowed[1])];
+        if random.one_in(2) {
+            sides.reverse();
+        }
+        self.compare(sides[0], sides[1], random)
+    }
+
+    /// Any condition that the join may have.
+    pub fn condition(&self, join: &Join, values: usize, random: &mut Random) -> Condition {
+        let allowed = random.pick(&[0, 1]);
+        let side = &join.allowed[allowed];
+        let table = random.pick(side);
+        match random.below(4) {
+            0 | 1 => self.between(join, random),
+            2 if side.len() > 1 => self.one_sided(side, random),
+            _ => self.constant(table, value(values, random), random),
+        }
+    }
+
+    /// A condition between two of the tables.
+    pub fn one_sided(&self, tables: &[usize], random: &mut Random) -> Condition {
+        let first = random.below(tables.len());
+        let second = (first + 1 + random.below(tables.len() - 1)) % tables.len();
+        self.compare(tables[first], tables[second], random)
+    }
+
+    pub fn constant(&self, table: usize, number: i32, random: &mut Random) -> Condition {
+        let column = random.below(self.tables[table].columns);
+        Condition { table, column, operator: random.pick(&OPERATORS), other: Other::Constant(number) }
+    }
+
+    fn compare(&self, first: usize, second: usize, random: &mut Random) -> Condition {
+        let mut column = |table: usize| random.below(self.tables[table].columns);
+        let (column, other) = (column(first), Other::Column(second, column(second)));
+        let operator = if random.one_in(3) { random.pick(&OPERATORS) } else { EQUAL };
+        Condition { table: first, column, operator, other }
+    }
+
+    pub fn text(&self) -> Vec<u8> {
+        let mut text = String::new();
+        for table in &self.tables {
+            line(&mut text, format_args!("T\t{}", table.columns));
+            for row in &table.rows {
+                text.push('D');
+                for &cell in row {
+                    match cell {
+                        BLANK => text.push_str("\t-"),
+                        cell => write!(text, "\t{cell}").unwrap(),
+                    }
+                }
+                text.push('\n');
+            }
+        }
+        for join in &self.joins {
+            let kind = if join.outer { 'L' } else { 'I' };
+            line(&mut text, format_args!("J\t{kind}\t{}\t{}", join.sides[0], join.sides[1]));
+            for Condition { table, column, operator, other } in &join.conditions {
+                match other {
+                    Other::Column(second, of_second) => {
+                        line(&mut text, format_args!("C\t{table}\t{column}\t{operator}\t{second}\t{of_second}"));
+                    }
+                    Other::Constant(number) => {
+                        line(&mut text, format_args!("K\t{table}\t{column}\t{operator}\t{number}"));
+                    }
+                }
+            }
+        }
+        for pair in &self.order {
+            line(&mut text, format_args!("P\t{}\t{}", pair[0], pair[1]));
+        }
+        text.into_bytes()
+    }
+}
+
+fn line(text: &mut String, fields: std::fmt::Arguments) {
+    text.write_fmt(fields).unwrap();
+    text.push('\n');
+}
+
+fn take<T>(items: &mut Vec<T>, random: &mut Random) -> T {
+    items.swap_remove(random.below(items.len()))
+}
+
+fn table(most_rows: usize, values: usize, random: &mut Random) -> Table {
+    let columns = if random.one_in(8) { 1 + random.below(8) } else { 1 + random.below(3) };
+    let rows = if random.one_in(8) { 0 } else { 1 + random.below(most_rows) };
+    let blanks = random.pick(&[4, 10, 1000]);
+    let cell = |random: &mut Random| if random.one_in(blanks) { BLANK } else { value(values, random) };
+    Table { columns, rows: (0..rows).map(|_| (0..columns).map(|_| cell(random)).collect()).collect() }
+}
+
+/// A cell that is not blank, most often one of the first `values` numbers.
+fn value(values: usize, random: &mut Random) -> i32 {
+    match random.below(40) {
+        0 => -i32::MAX,
+        1 => i32::MAX,
+        2 => -1,
+        3 => random.next_u64() as i32 | 1,
+        _ => random.below(values) as i32,
+    }
+}
+
+/// A tree of pairs over the tables.
+fn order(tables: usize, random: &mut Random) -> Vec<[usize; 2]> {
+    let mut roots: Vec<usize> = (0..tables).collect();
+    let mut pairs = vec![];
+    for node in tables..2 * tables - 1 {
+        pairs.push([take(&mut roots, random), take(&mut roots, random)]);
+        roots.push(node);
+    }
+    pairs
+}

@@ -1,0 +1,82 @@
+//! Generated texts: the plan and the direct reading hand over the same rows (demand 3), every refusal occurs, and
+//! the lent memory ends as document 01 says.
+
+use hashjoin::generate::{each_fixed_text, each_random_text};
+use hashjoin::lent::{LEAST, Lent, MARK};
+use hashjoin::{Answer, BEST_MATCH, BLANKING, ROWS, STEPS, Step, TABLES};
+
+const SEED: u64 = 1;
+const COUNT: usize = 40_000;
+const QUESTIONS: usize = 11;
+
+#[test]
+fn report_and_direct_agree() {
+    let mut lent = [(); 2].map(|()| Lent::marked(LEAST.map(|least| least + 3)));
+    let mut refused = [[0; QUESTIONS + 1]; 2];
+    let mut kinds = [0; BEST_MATCH as usize + 1];
+    let (mut only_report, mut only_direct, mut most_rows, mut most_steps) = (0, 0, 0, 0);
+    let mut texts = 0;
+    let mut check = |text: &[u8]| {
+        texts += 1;
+        lent.iter_mut().for_each(|lent| lent.result.fill(MARK));
+        let [of_report, of_direct] = &mut lent;
+        let (planned, read) = (of_report.report(text), of_direct.direct(text));
+        for (answer, refused) in [planned, read].iter().zip(&mut refused) {
+            refused[usize::from(answer.err().unwrap_or(0))] += 1;
+        }
+        for (answer, lent) in [planned, read].iter().zip([&*of_report, of_direct]) {
+            let written = answer.map_or(0, |rows| rows.rows * rows.tables);
+            assert!(lent.result[written..].iter().all(|&number| number == MARK));
+            assert!(lent.cells.iter().all(|&number| number == 0) && lent.work.iter().all(|&number| number == 0));
+        }
+        most_steps = most_steps.max(check_steps(&planned, &of_report.steps));
+        of_report.steps.iter().for_each(|step| kinds[usize::from(step.kind)] += 1);
+        match (planned, read) {
+            (Ok(planned), Ok(read)) => {
+                assert_eq!((planned.rows, planned.tables), (read.rows, read.tables), "{}", shown(text));
+                assert_eq!(of_report.result, of_direct.result, "{}", shown(text));
+                most_rows = most_rows.max(planned.rows);
+            }
+            (Ok(_), Err(question)) => {
+                assert_eq!(question, 11, "{}", shown(text));
+                only_report += 1;
+            }
+            (Err(question), Ok(_)) => {
+                assert!(question == 9 || question == 11, "{}", shown(text));
+                only_direct += 1;
+            }
+            (Err(first), Err(second)) => assert!(first == second || (first, second) == (9, 11), "{}", shown(text)),
+        }
+    };
+    each_fixed_text(&mut check);
+    each_random_text(SEED, COUNT, &mut check);
+    println!("{texts} texts");
+    println!("answered (0) or refused by question: report {:?}", refused[0]);
+    println!("                                     direct {:?}", refused[1]);
+    println!("answered by report alone {only_report}, by direct alone {only_direct}");
+    println!("steps by kind {:?}; most steps {most_steps}, most rows {most_rows}", &kinds[1..]);
+    for (question, &count) in refused[0].iter().enumerate() {
+        assert_eq!(count == 0, question == 1 || question == 10, "question {question}");
+    }
+    assert!(only_report > 0 && only_direct > 0 && most_rows == ROWS && most_steps == STEPS);
+    assert!(kinds.iter().all(|&count| count > 0));
+}
+
+/// A plan and then zero steps; after a refusal zero steps only. Gives the plan's length.
+fn check_steps(answer: &Answer, steps: &[Step]) -> usize {
+    let length = steps.iter().take_while(|step| step.kind != 0).count();
+    assert!(steps[length..].iter().all(|&step| step == Step::default()));
+    let Ok(rows) = answer else {
+        assert_eq!(length, 0);
+        return length;
+    };
+    let blanking = steps.iter().filter(|step| step.kind == BLANKING).count();
+    assert!(blanking <= TABLES);
+    assert_eq!(length, rows.tables - 1 + blanking + usize::from(blanking > 0));
+    assert_eq!(steps[length.max(1) - 1].kind == BEST_MATCH, blanking > 0);
+    length
+}
+
+fn shown(text: &[u8]) -> String {
+    String::from_utf8_lossy(text).replace('\t', "|")
+}
