@@ -21,7 +21,7 @@ impl Condition {
     /// Whether it compares a cell of one side with a cell of the other.
     pub fn links(&self, left: u8, right: u8) -> bool {
         let named = self.named();
-        named.count_ones() == 2 && named & left != 0 && named & right != 0
+        named & left != 0 && named & right != 0
     }
 }
 
