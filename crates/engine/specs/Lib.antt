@@ -17,3 +17,5 @@ pub mod Reached
 pub mod Gave
 pub mod DirectLaws
 pub mod DirectCode
+pub mod Planning
+pub mod PlanningLaws

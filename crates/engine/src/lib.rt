@@ -2,3 +2,4 @@
 pub mod answer;
 pub mod clear;
 pub mod direct;
+pub mod planned;

@@ -1,0 +1,62 @@
+-- What the code's inner routines over a plan give. Serves the code only: no demand cites it. Assumes nothing.
+use mathlib.Core.Path.{_≡_}
+use mathlib.Core.Bool.{Bool, true, false, _&&_}
+use mathlib.Core.List.{List, []}
+use Prim.Native.Nat.{ℕ, zero, suc, _+_, _-_}
+use lib.Dec.{leb}
+use lib.ListN.{length, getD, replicate}
+use Rattle.rows.specs.Trees.{Database}
+use Rattle.plan.specs.Report.{joinOrder}
+use Rattle.plan.specs.Sets.{blankingSets}
+use Rattle.plan.specs.Plan.{planTrees, blankings}
+use Rattle.plan.specs.Steps.{stepsOf}
+use Rattle.plan.specs.Questions.{question9, question10}
+use Rattle.plan.specs.Stored.{queryIn}
+use Rattle.plan.specs.StepWords.{listed, withRows}
+use Rattle.plan.specs.Words.{setWords}
+use Rattle.plan.specs.declared.query.StoredQuery.{StoredQuery}
+use Rattle.plan.specs.declared.steps.StepList.{StepList}
+use Rattle.joins.specs.declared.join.Joined.{Joined}
+use Rattle.joins.specs.declared.join.Joined.the-variants as J
+use Rattle.run.specs.PlanRuns.{PlanRan}
+use Rattle.engine.specs.Calls.{noSets}
+use Rattle.engine.specs.declared.answer.Answer.the-variants.{Rows, Refused}
+use Rattle.engine.specs.declared.planned.Planned.{Planned}
+
+-- what is handed over for a refusal
+unfoldable pub turnedDown : ℕ → Planned
+turnedDown n = record { answer = Refused n; sets = noSets; plan = listed [] }
+
+-- a plan with the counts of rows of its first pairs
+unfoldable pub withCounts : StepList → List ℕ → ℕ → StepList
+withCounts s counts zero = s
+withCounts s counts (suc k) = withRows (withCounts s counts k) k (getD counts k 0)
+
+-- how many blanking steps a plan of so many steps has
+unfoldable pub blanksIn : ℕ → ℕ → ℕ
+blanksIn count tables = count - tables
+
+-- what is handed over after the run of a plan: its answer and the counts of its pairs
+unfoldable pub handedOver : StoredQuery → List ℕ → List ℕ → Joined → Planned
+handedOver q sets counts (J.Rows k) = record {
+  answer = Rows k;
+  sets = sets;
+  plan = withCounts (listed (stepsOf (queryIn q) (replicate (length (joinOrder (queryIn q))) 0))) counts (q .«table_count» - 1);
+}
+handedOver q sets counts J.TooMany = turnedDown 11
+
+module _ (D : Database ℕ) (q : StoredQuery) where
+  -- the plan run
+  pub record StepsRun (sets w w′ : List ℕ) (r : Planned) : Type 0 where
+    pub counts : List ℕ
+    pub joined : Joined
+    pub long : length counts ≡ 8
+    pub ran : PlanRan D (planTrees (queryIn q)) (q .«table_count») (q .«table_count» - 1) (blankings (queryIn q)) counts w w′ joined
+    pub handed : r ≡ handedOver q sets counts joined
+
+  -- questions 9, 10 and 11
+  pub record QueryRun (w w′ : List ℕ) (r : Planned) : Type 0 where
+    pub nine : (leb (q .«pair_count») 7 && question9 (queryIn q)) ≡ false → (r ≡ turnedDown 9) × (w′ ≡ w)
+    pub ten : (leb (q .«pair_count») 7 && question9 (queryIn q)) ≡ true → question10 (queryIn q) ≡ false → (r ≡ turnedDown 10) × (w′ ≡ w)
+    pub rows : (leb (q .«pair_count») 7 && question9 (queryIn q)) ≡ true → question10 (queryIn q) ≡ true
+        → StepsRun (setWords (blankingSets (queryIn q))) w w′ r
