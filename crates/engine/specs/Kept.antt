@@ -6,6 +6,7 @@ use mathlib.Core.Option.{Option, none, some}
 use Prim.Native.Nat.{ℕ, zero, suc, _+_, _-_, _<_, _≤_}
 use native.Mathlib.Nat.{zero-add}
 use native.Mathlib.Omega.{arith}
+use lib.Dec.{leb}
 use lib.IntN.{ℤ}
 use lib.ListN.{length, drop, take, length-append, length-map}
 use lib.Seq.{take-all, sets-eq}
@@ -20,7 +21,7 @@ use Rattle.plan.specs.BuiltLaws.{length-range}
 use Rattle.plan.specs.Sets.{blanksLeft, blanksRight}
 use Rattle.plan.specs.Stored.{queryIn}
 use Rattle.plan.specs.Counted.{Counted}
-use Rattle.plan.specs.Questions.{namesRightSide, question8}
+use Rattle.plan.specs.Questions.{namesRightSide, question8, question9}
 use Rattle.plan.specs.declared.query.StoredQuery.{StoredQuery}
 use Rattle.text.specs.Bytes.{Bytes}
 use Rattle.text.specs.Lines.{Line}
@@ -29,7 +30,7 @@ use Rattle.text.specs.Questions.{cellsInRows, cellsInTables, question3, questio
 use Rattle.load.specs.Cells.{laid, textCells}
 use Rattle.load.specs.Flat.{flatRows, flatTables, text-cells}
 use Rattle.questions.specs.Kept.{all-same}
-use Rattle.questions.specs.Whole.{Keeps}
+use Rattle.questions.specs.Whole.{Keeps, whole-nine}
 use Rattle.reader.specs.Query.{storedOf, done}
 use Rattle.reader.specs.Outcome.{TextOutcome, turnedDown, says, readOutcome, outcomeOf, linesOutcome, runAfter, run-accepted}
 use Rattle.reader.specs.Whole.{table-count}
@@ -61,6 +62,11 @@ module _ (q r : Query) (c : q .columns ≡ r .columns) (j : q .joins ≡ r .join
         (λ (x : Join). rw (named-same (x .conditions) (x .left), named-same (x .conditions) (x .right)))
         ∙ ap (all (fits r)) j
 
+-- queries that have the same lines are the same
+same-query : (q r : Query) → q .columns ≡ r .columns → q .joins ≡ r .joins → q .conditions ≡ r .conditions → q .pairs ≡ r .pairs → q ≡ r
+same-query q r c j d e =
+    let x : record { columns = q .columns; joins = q .joins; conditions = q .conditions; pairs = q .pairs } ≡ r = rw (c, j, d, e) in x
+
 -- ---- a text
 
 module _ {bs : Bytes} {s : StoredQuery} (p : Passed bs s) where
@@ -86,22 +92,29 @@ module _ {bs : Bytes} {s : StoredQuery} (p : Passed bs s) where
   pub same-pairs : s .«pair_count» ≤ 7 → queryIn s .pairs ≡ here .pairs
   same-pairs h = kept .pairs ∙ take-all 7 (here .pairs) (omega (arith, kept .pair-count, h))
 
+  -- the whole query, where no P line was left out
+  pub query-kept : s .«pair_count» ≤ 7 → queryIn s ≡ here
+  query-kept h = same-query (queryIn s) here same-columns same-joins same-conditions (same-pairs h)
+
   pub counted : Counted s
   counted = record { tables = passed-tables p; joins = p .joins; conditions = p .conditions }
 
   pub eight-kept : question8 (queryIn s) ≡ question8 here
   eight-kept = eight-same (queryIn s) here same-columns same-joins same-conditions
 
-  -- ---- the tree
-
   pub tables-kept : s .«table_count» ≡ tableCount here
   tables-kept = ap (λ (z : StoredQuery). z .«table_count») (p .kept) ∙ table-count ls
+
+  pub nine-kept : (leb (s .«pair_count») 7 && question9 (queryIn s)) ≡ question9 here
+  nine-kept = whole-nine kept (subst (λ (n : ℕ). n ≤ 8) tables-kept (passed-tables p))
 
   pub some-table : 1 ≤ s .«table_count»
   unfolding tableCount queryOf reportOf
   some-table =
       let n : tableCount here ≡ length ((tablesOf ls) .1) = length-map ((tablesOf ls) .1) (λ (t : Table). t .columns) in
       omega (arith, tables-kept, n, fits-tables ls (p .fits) .0)
+
+  -- ---- the tree
 
   nodes-kept : length (joinTrees here) ≡ s .«table_count» + s .«join_count»
   unfolding joinTrees treesOf tableNumbers

@@ -19,3 +19,4 @@ pub mod DirectLaws
 pub mod DirectCode
 pub mod Planning
 pub mod PlanningLaws
+pub mod ReportLaws

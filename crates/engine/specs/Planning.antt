@@ -1,10 +1,10 @@
 -- What the code's inner routines over a plan give. Serves the code only: no demand cites it. Assumes nothing.
 use mathlib.Core.Path.{_≡_}
 use mathlib.Core.Bool.{Bool, true, false, _&&_}
-use mathlib.Core.List.{List, []}
+use mathlib.Core.List.{List, [], _++_}
 use Prim.Native.Nat.{ℕ, zero, suc, _+_, _-_}
 use lib.Dec.{leb}
-use lib.ListN.{length, getD, replicate}
+use lib.ListN.{length, getD, drop, replicate}
 use Rattle.rows.specs.Trees.{Database}
 use Rattle.plan.specs.Report.{joinOrder}
 use Rattle.plan.specs.Sets.{blankingSets}
@@ -19,7 +19,8 @@ use Rattle.plan.specs.declared.steps.StepList.{StepList}
 use Rattle.joins.specs.declared.join.Joined.{Joined}
 use Rattle.joins.specs.declared.join.Joined.the-variants as J
 use Rattle.run.specs.PlanRuns.{PlanRan}
-use Rattle.engine.specs.Calls.{noSets}
+use Rattle.engine.specs.Answers.{Outcome, refused, answered, ReportAnswer}
+use Rattle.engine.specs.Calls.{noSets, written}
 use Rattle.engine.specs.declared.answer.Answer.the-variants.{Rows, Refused}
 use Rattle.engine.specs.declared.planned.Planned.{Planned}
 
@@ -60,3 +61,24 @@ module _ (D : Database ℕ) (q : StoredQuery) where
     pub ten : (leb (q .«pair_count») 7 && question9 (queryIn q)) ≡ true → question10 (queryIn q) ≡ false → (r ≡ turnedDown 10) × (w′ ≡ w)
     pub rows : (leb (q .«pair_count») 7 && question9 (queryIn q)) ≡ true → question10 (queryIn q) ≡ true
         → StepsRun (setWords (blankingSets (queryIn q))) w w′ r
+
+-- ---- an outcome
+
+-- what is handed over for an outcome of the engine
+unfoldable pub plannedFor : Outcome ReportAnswer → Planned
+plannedFor (refused n) = turnedDown n
+plannedFor (answered a) = record {
+  answer = Rows (length (a .rows));
+  sets = a .sets ++ drop (length (a .sets)) noSets;
+  plan = listed (a .steps);
+}
+
+-- the result buffer after an outcome
+unfoldable pub resultAfter : Outcome ReportAnswer → List ℕ → List ℕ
+resultAfter (refused n) w = w
+resultAfter (answered a) w = written (a .rows) w
+
+-- an outcome handed over
+pub record Reported (o : Outcome ReportAnswer) (w w′ : List ℕ) (r : Planned) : Type 0 where
+  pub planned : r ≡ plannedFor o
+  pub result : w′ ≡ resultAfter o w

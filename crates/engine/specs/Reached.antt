@@ -1,23 +1,27 @@
--- What an accepted text's runs reach, as the code sees it over work space: question 11 of the direct reading. Assumes nothing.
+-- What the two runs of an accepted text have over work space is what document 01 defines: question 11 of the direct reading, the counts
+-- of rows of a plan's nodes, and the rows that are handed over. Assumes nothing.
 use mathlib.Core.Path.{_≡_, refl, sym, ap, ap₂, _∙_, subst}
 use mathlib.Core.Bool.{Bool, true, false, _&&_}
 use mathlib.Core.List.{List, [], _∷_, _++_, map, flatMap}
 use mathlib.Core.Option.{none}
-use Prim.Native.Nat.{ℕ, _<_, _≤_}
+use Prim.Native.Nat.{ℕ, suc, _<_, _≤_}
 use native.Mathlib.Omega.{arith}
-use lib.Dec.{T, leb}
+use lib.Dec.{T, leb, eqb}
 use lib.IntN.{ℤ}
 use lib.ListN.{length, take, length-map}
-use mir.Facts.{and-yes, leb-yes}
+use mir.Facts.{and-yes, leb-yes, eqb-yes}
 use Rattle.cells.specs.Row.{Row, blankRow}
 use Rattle.rows.specs.Lists.{all}
 use Rattle.rows.specs.Rows.{ordered}
-use Rattle.rows.specs.Nullification.{finished}
+use Rattle.rows.specs.Nullification.{finished, planRows}
 use Rattle.rows.specs.Trees.{Database, Tree, leaf, join, joined, rowsOf}
 use Rattle.rows.specs.Shapes.{Lawful, Shaped}
-use Rattle.plan.specs.Report.{Table, Report, Query, queryOf, tableCount}
-use Rattle.plan.specs.Nodes.{joinTrees, joinTree}
-use Rattle.plan.specs.Questions.{question8}
+use Rattle.plan.specs.Report.{Table, Report, Query, queryOf, tableCount, joinOrder}
+use Rattle.plan.specs.Nodes.{treeAt, treeOf, joinTrees, joinTree}
+use Rattle.plan.specs.Plan.{planTrees, planTree, blankings}
+use Rattle.plan.specs.Questions.{lowerSides, sidesOf, noneTwice, wellBuilt, question8, question9}
+use Rattle.plan.specs.BuiltLaws.{from-whole}
+use Rattle.plan.specs.PlanLaws.{plan-matched, order-built, plan-shaped}
 use Rattle.plan.specs.QueryLaws.{Accepted, query-matched, query-built, query-shaped}
 use Rattle.plan.specs.declared.query.StoredQuery.{StoredQuery}
 use Rattle.text.specs.Bytes.{Bytes}
@@ -30,7 +34,7 @@ use Rattle.run.specs.Database.{databaseOf, rowsIn, cellsOf, database}
 use Rattle.run.specs.DatabaseLaws.{lawful, lawful-names, database-width}
 use Rattle.run.specs.LimitLaws.{within256, whole-results, results-whole}
 use Rattle.run.specs.Padding.{pad}
-use Rattle.run.specs.Runs.{results, withinLimit, directRows, question11Direct}
+use Rattle.run.specs.Runs.{results, withinLimit, directRows, question11Direct, runRows, reportRows}
 use Rattle.accept.specs.Accept.{refusal, Passed}
 use Rattle.accept.specs.AcceptLaws.{fits-tables}
 use Rattle.engine.specs.Answers.{sharedQuestions, firstNo}
@@ -38,6 +42,14 @@ use Rattle.engine.specs.AnswerLaws.{report-accepted, rows-limit, few-row
 use Rattle.engine.specs.Asked.{passed-early, eight-yes}
 use Rattle.engine.specs.Readable.{few-cells, early}
 use Rattle.engine.specs.Seen.{rows-seen, numbers-seen, count-seen}
+
+-- a test that holds, and one that does not
+pub is-true : (b : Bool) → T b → b ≡ true
+is-true true h = refl
+
+pub is-false : (b : Bool) → (T b → ⊥) → b ≡ false
+is-false true h = absurd (h tt)
+is-false false h = refl
 
 -- two tests that follow from each other
 same-test : (a b : Bool) → (T a → T b) → (T b → T a) → a ≡ b
@@ -119,3 +131,37 @@ module _ {bs : Bytes} {s : StoredQuery} (p : Passed bs s) (passed : refusal bs �
   unfolding directRows finished
   direct-numbers =
       numbers-seen ls (early p) few (few-cells ls (p .fits)) (p .even) numbered more small (joinTree q) query-tree []
+
+  -- ---- the plan
+
+  module _ (nine : T (question9 q)) where
+    built : T (wellBuilt (tableCount q) (joinOrder q))
+    built = order-built q (ok .five) nine
+
+    -- there is one pair fewer than tables
+    pub pair-count : suc (length (joinOrder q)) ≡ tableCount q
+    unfolding wellBuilt
+    pair-count =
+        let n = length (joinOrder q) in
+        let (a, b) = and-yes (eqb (suc n) (tableCount q) && lowerSides (tableCount q) (joinOrder q)) (noneTwice (sidesOf (joinOrder q))) built in
+        eqb-yes (and-yes (eqb (suc n) (tableCount q)) (lowerSides (tableCount q) (joinOrder q)) a .0)
+
+    plan-tree : Shaped laws (planTree q)
+    plan-tree = plan-shaped q laws (database-width q (rowsIn r) (cellsOf r) small) (lawful-names q (rowsIn r) (cellsOf r) small) built
+
+    node-shaped : (i : ℕ) → i < length (planTrees q) → Shaped laws (treeAt (planTrees q) i)
+    unfolding planTree planTrees treeOf
+    node-shaped = from-whole q (plan-matched q) built (Shaped laws) (λ j h. (h .0, h .1)) plan-tree
+
+    -- how many rows a node has
+    pub node-count : (i : ℕ) → i < length (planTrees q) → length (rowsOf W (treeAt (planTrees q) i)) ≡ length (rowsOf (database r) (treeAt (planTrees q) i))
+    node-count i h = rows-count (treeAt (planTrees q) i) (node-shaped i h)
+
+    -- the rows that are handed over
+    pub report-count : length (finished W (blankings q) (rowsOf W (planTree q))) ≡ length (reportRows r)
+    unfolding reportRows runRows planRows
+    report-count = count-seen ls (early p) few (few-cells ls (p .fits)) (p .even) numbered more small (planTree q) plan-tree (blankings q)
+
+    pub report-numbers : flatMap (take (tableCount q)) (finished W (blankings q) (rowsOf W (planTree q))) ≡ flatMap (λ (row : Row). row) (reportRows r)
+    unfolding reportRows runRows planRows
+    report-numbers = numbers-seen ls (early p) few (few-cells ls (p .fits)) (p .even) numbered more small (planTree q) plan-tree (blankings q)
