@@ -78,7 +78,7 @@ module _ (text : Bytes) (m : Lent) where
 
       first : (b : Bool) → Decided ((elim b as (λ z. ReportCall) [
         | true ↦ reportAfter (reportOutcome text) m steps
-        | false ↦ record { answer = Refused 1; sets = noSets; lent = m; steps = steps }
+        | false ↦ record { answer = Refused 1; tables = 0; sets = noSets; count = 0; lent = m; steps = steps }
       ]) .answer)
       first true = after (reportOutcome text) (report-number text)
       first false = inr (1, refl, lit≤ tt, lit≤ tt)

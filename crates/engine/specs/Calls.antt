@@ -47,10 +47,13 @@ laidOut plan n = plan ++ replicate (n - length plan) zeroStep
 
 -- ---- the engine
 
--- the answer of a call, each table's set as bits (a table that there is not: none), lent memory and the step list afterwards
+-- the answer of a call, how many tables there are and each one's set as bits (a table that there is not: none), how many steps the
+-- plan has, lent memory and the step list afterwards. After a refusal there is no table and no step
 pub record ReportCall : Type 0 where
   pub answer : Answer
+  pub tables : ℕ
   pub sets : List ℕ
+  pub count : ℕ
   pub lent : Lent
   pub steps : List Step
 
@@ -61,13 +64,17 @@ noSets = replicate 8 0
 unfoldable pub reportAfter : Outcome ReportAnswer → Lent → List Step → ReportCall
 reportAfter (refused n) m steps = record {
   answer = Refused n;
+  tables = 0;
   sets = noSets;
+  count = 0;
   lent = cleared m (m .result);
   steps = laidOut [] (length steps);
 }
 reportAfter (answered a) m steps = record {
   answer = Rows (length (a .rows));
+  tables = length (a .sets);
   sets = a .sets ++ drop (length (a .sets)) noSets;
+  count = length (a .steps);
   lent = cleared m (written (a .rows) (m .result));
   steps = laidOut (a .steps) (length steps);
 }
@@ -77,7 +84,7 @@ unfoldable pub reportCall : Bytes → Lent → List Step → ReportCall
 reportCall text m steps =
     elim (question1 m steps) [
       | true ↦ reportAfter (reportOutcome text) m steps
-      | false ↦ record { answer = Refused 1; sets = noSets; lent = m; steps = steps }
+      | false ↦ record { answer = Refused 1; tables = 0; sets = noSets; count = 0; lent = m; steps = steps }
     ]
 
 -- ---- the direct reading

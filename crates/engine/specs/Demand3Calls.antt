@@ -41,7 +41,7 @@ report-call text m steps h = passed (question1 m steps) h
   where
     passed : (b : Bool) → T b → _≡_ {A = ReportCall} (elim b [
       | true ↦ reportAfter (reportOutcome text) m steps
-      | false ↦ record { answer = Refused 1; sets = noSets; lent = m; steps = steps }
+      | false ↦ record { answer = Refused 1; tables = 0; sets = noSets; count = 0; lent = m; steps = steps }
     ]) (reportAfter (reportOutcome text) m steps)
     passed true h = refl
 

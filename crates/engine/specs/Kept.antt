@@ -14,14 +14,14 @@ use Rattle.cells.specs.Choice.{if_then_else_}
 use Rattle.cells.specs.Condition.{namesOf}
 use Rattle.rows.specs.Lists.{all, any}
 use Rattle.rows.specs.Trees.{Tree, leaf}
-use Rattle.plan.specs.Report.{Table, Join, Query, queryOf, tableCount, tableNumbers, conditionAt, namedBy}
+use Rattle.plan.specs.Report.{Table, Join, Query, queryOf, tableCount, tableNumbers, conditionAt, namedBy, joinPairs}
 use Rattle.plan.specs.Nodes.{treeOf, treesOf, treeAt, lastTree, joinTrees, joinTree}
 use Rattle.plan.specs.NodeLaws.{grown-length}
 use Rattle.plan.specs.BuiltLaws.{length-range}
 use Rattle.plan.specs.Sets.{blanksLeft, blanksRight}
 use Rattle.plan.specs.Stored.{queryIn}
 use Rattle.plan.specs.Counted.{Counted}
-use Rattle.plan.specs.Questions.{namesRightSide, question8, question9}
+use Rattle.plan.specs.Questions.{namesRightSide, question5, question8, question9}
 use Rattle.plan.specs.declared.query.StoredQuery.{StoredQuery}
 use Rattle.text.specs.Bytes.{Bytes}
 use Rattle.text.specs.Lines.{Line}
@@ -98,6 +98,10 @@ module _ {bs : Bytes} {s : StoredQuery} (p : Passed bs s) where
 
   pub counted : Counted s
   counted = record { tables = passed-tables p; joins = p .joins; conditions = p .conditions }
+
+  pub five-kept : question5 (queryIn s) ≡ question5 here
+  unfolding question5 joinPairs tableCount
+  five-kept = rw (same-columns, same-joins)
 
   pub eight-kept : question8 (queryIn s) ≡ question8 here
   eight-kept = eight-same (queryIn s) here same-columns same-joins same-conditions

@@ -20,3 +20,4 @@ pub mod DirectCode
 pub mod Planning
 pub mod PlanningLaws
 pub mod ReportLaws
+pub mod ReportCode

@@ -10,7 +10,7 @@ use Rattle.plan.specs.Report.{joinOrder}
 use Rattle.plan.specs.Sets.{blankingSets}
 use Rattle.plan.specs.Plan.{planTrees, blankings}
 use Rattle.plan.specs.Steps.{stepsOf}
-use Rattle.plan.specs.Questions.{question9, question10}
+use Rattle.plan.specs.Questions.{question8, question9, question10}
 use Rattle.plan.specs.Stored.{queryIn}
 use Rattle.plan.specs.StepWords.{listed, withRows}
 use Rattle.plan.specs.Words.{setWords}
@@ -26,7 +26,7 @@ use Rattle.engine.specs.declared.planned.Planned.{Planned}
 
 -- what is handed over for a refusal
 unfoldable pub turnedDown : ℕ → Planned
-turnedDown n = record { answer = Refused n; sets = noSets; plan = listed [] }
+turnedDown n = record { answer = Refused n; tables = 0; sets = noSets; plan = listed [] }
 
 -- a plan with the counts of rows of its first pairs
 unfoldable pub withCounts : StepList → List ℕ → ℕ → StepList
@@ -41,6 +41,7 @@ blanksIn count tables = count - tables
 unfoldable pub handedOver : StoredQuery → List ℕ → List ℕ → Joined → Planned
 handedOver q sets counts (J.Rows k) = record {
   answer = Rows k;
+  tables = q .«table_count»;
   sets = sets;
   plan = withCounts (listed (stepsOf (queryIn q) (replicate (length (joinOrder (queryIn q))) 0))) counts (q .«table_count» - 1);
 }
@@ -69,6 +70,7 @@ unfoldable pub plannedFor : Outcome ReportAnswer → Planned
 plannedFor (refused n) = turnedDown n
 plannedFor (answered a) = record {
   answer = Rows (length (a .rows));
+  tables = length (a .sets);
   sets = a .sets ++ drop (length (a .sets)) noSets;
   plan = listed (a .steps);
 }
@@ -82,3 +84,8 @@ resultAfter (answered a) w = written (a .rows) w
 pub record Reported (o : Outcome ReportAnswer) (w w′ : List ℕ) (r : Planned) : Type 0 where
   pub planned : r ≡ plannedFor o
   pub result : w′ ≡ resultAfter o w
+
+-- question 8, then those behind it
+pub record QueryAsked (D : Database ℕ) (q : StoredQuery) (w w′ : List ℕ) (r : Planned) : Type 0 where
+  pub eight : question8 (queryIn q) ≡ false → (r ≡ turnedDown 8) × (w′ ≡ w)
+  pub rest : question8 (queryIn q) ≡ true → QueryRun D q w w′ r

@@ -14,7 +14,7 @@ use Rattle.plan.specs.Report.{Query, joinOrder}
 use Rattle.plan.specs.Sets.{blankingSets}
 use Rattle.plan.specs.Plan.{planTrees, blankings}
 use Rattle.plan.specs.Words.{setWords}
-use Rattle.plan.specs.Questions.{question5, question9, question10}
+use Rattle.plan.specs.Questions.{question5, question8, question9, question10}
 use Rattle.plan.specs.Steps.{stepsOf}
 use Rattle.plan.specs.Stored.{queryIn}
 use Rattle.plan.specs.StepWords.{listed, withRows}
@@ -29,7 +29,7 @@ use Rattle.run.specs.Pairs.{stepTrees, Runnable}
 use Rattle.run.specs.Finishing.{blankingsIn, Tabled}
 use Rattle.run.specs.PlanRuns.{PlanRan}
 use Rattle.run.specs.StepRuns.{steps-pairs, steps-blankings, steps-room, steps-runnable, steps-tabled, plan-ran}
-use Rattle.engine.specs.Planning.{turnedDown, withCounts, blanksIn, handedOver, StepsRun, QueryRun}
+use Rattle.engine.specs.Planning.{turnedDown, withCounts, blanksIn, handedOver, StepsRun, QueryRun, QueryAsked}
 use Rattle.engine.specs.declared.answer.Answer.the-variants.{Rows}
 use Rattle.engine.specs.declared.planned.Planned.{Planned}
 
@@ -98,7 +98,7 @@ module _ (q : StoredQuery) (s : StepList) (handed : s ≡ listed (stepsOf (query
           (plan-ran q s handed readable five nine n (n - 1) b tables paired blanked D counts w w′ a ran)
 
       pub run-rows : {sets : List ℕ} {t : StepList} (k : ℕ) → a ≡ J.Rows k → t ≡ withCounts s counts (n - 1)
-          → StepsRun D q sets w w′ (record { answer = Rows k; sets = sets; plan = t })
+          → StepsRun D q sets w w′ (record { answer = Rows k; tables = n; sets = sets; plan = t })
       unfolding handedOver
       run-rows {sets} {t} k f g = record {
         counts = counts;
@@ -106,7 +106,7 @@ module _ (q : StoredQuery) (s : StepList) (handed : s ≡ listed (stepsOf (query
         long = long;
         ran = planned-ran;
         handed =
-            ap (λ (z : StepList). record { answer = Rows k; sets = sets; plan = z })
+            ap₂ (λ (m : ℕ) (z : StepList). record { answer = Rows k; tables = m; sets = sets; plan = z }) tables
             (g ∙ ap₂ (λ (z : StepList) (m : ℕ). withCounts z counts (m - 1)) handed tables)
             ∙ sym (ap (handedOver q sets counts) f);
       }
@@ -150,3 +150,12 @@ module _ (q : StoredQuery) {b : Bool} (e : b ≡ (leb (q .«pair_count») 7 && q
         ten = λ l m. absurd (not-both (sym g ∙ h) m);
         rows = λ l m. subst (λ (z : List ℕ). StepsRun D q z w w′ r) k x;
       }
+
+-- ---- question 8
+
+module _ (q : StoredQuery) {b : Bool} (e : b ≡ question8 (queryIn q)) where
+  pub eight-refused : {D : Database ℕ} {w : List ℕ} {r : Planned} → b ≡ false → r ≡ turnedDown 8 → QueryAsked D q w w r
+  eight-refused f g = record { eight = λ h. (g, refl); rest = λ h. absurd (not-both h (sym e ∙ f)) }
+
+  pub eight-passed : {D : Database ℕ} {w w′ : List ℕ} {r : Planned} → b ≡ true → QueryRun D q w w′ r → QueryAsked D q w w′ r
+  eight-passed f x = record { eight = λ h. absurd (not-both (sym e ∙ f) h); rest = λ h. x }

@@ -58,7 +58,7 @@ use Rattle.engine.specs.AnswerLaws.{outcome-answered, outcome-refused}
 use Rattle.engine.specs.Asked.{refused-early, passed-early, eight-no, eight-yes}
 use Rattle.engine.specs.Calls.{noSets, written}
 use Rattle.engine.specs.Kept.{here, eight-kept, nine-kept, query-kept, tables-kept, run-kept}
-use Rattle.engine.specs.Planning.{turnedDown, withCounts, handedOver, StepsRun, QueryRun, plannedFor, resultAfter, Reported}
+use Rattle.engine.specs.Planning.{turnedDown, withCounts, handedOver, StepsRun, QueryRun, QueryAsked, plannedFor, resultAfter, Reported}
 use Rattle.engine.specs.PlanningLaws.{rows-counted}
 use Rattle.engine.specs.Reached.{is-true, is-false, pair-count, node-count, report-count, report-numbers}
 use Rattle.engine.specs.declared.answer.Answer.the-variants.{Rows, Refused}
@@ -84,6 +84,7 @@ report-early bs n w e f = reported (refused n) (refused-early last reportAnswer 
 abbrev handedBy : Query → ℕ → List ℕ → Joined → Planned
 handedBy q n counts (J.Rows k) = record {
   answer = Rows k;
+  tables = n;
   sets = setWords (blankingSets q);
   plan = withCounts (listed (stepsOf q (replicate (length (joinOrder q)) 0))) counts (n - 1);
 }
@@ -270,6 +271,9 @@ module _ {bs : Bytes} {s : StoredQuery} (p : Passed bs s) (passed : refusal bs �
       sets-all : setWords (blankingSets q) ≡ map bitsOf (blankingSets q) ++ drop (length (map bitsOf (blankingSets q))) noSets
       sets-all = sets-words (blankingSets q) (omega (arith, blanking-proper q .each, tables-few))
 
+      tables-all : n ≡ length (map bitsOf (blankingSets q))
+      tables-all = sym (length-map (blankingSets q) bitsOf ∙ blanking-proper q .each)
+
       -- the plan run
       ran-gives : {r : Planned} (counts : List ℕ) (j : Joined) → length counts ≡ 8 → PlanRan W trees n (n - 1) (blankings q) counts w w′ j
           → r ≡ handedBy q n counts j → Reported (reportOutcome bs) w w′ r
@@ -281,7 +285,7 @@ module _ {bs : Bytes} {s : StoredQuery} (p : Passed bs s) (passed : refusal bs �
           let v : flatRows n (finished W (blankings q) (rowsOf W (treeAt trees (n + (n - 1) - 1)))) ≡ flatMap (λ (row : Row). row) (reportRows report) =
           ap (flatMap (take n)) f ∙ report-numbers p passed yes-8 more yes-9 in
           reported (answered (reportAnswer report)) (outcome-rows nine ten (eleven-yes counts long few each))
-          (e ∙ rw (c, sets-all, steps-all counts long few each)) (x .numbers ∙ rw v)
+          (e ∙ rw (c, sets-all, steps-all counts long few each, tables-all)) (x .numbers ∙ rw v)
       ran-gives counts _ long (over i h o f) e =
           reported (refused 11) (outcome-11 nine ten (eleven-no i (omega (arith, pairs, h)) o)) e f
 
@@ -307,12 +311,12 @@ module _ {bs : Bytes} {s : StoredQuery} (p : Passed bs s) (passed : refusal bs �
           ten-is true e =
               let y = x .rows a e in
               ran-gives before after run room (sym (nine-kept p) ∙ a) (sym (ap question10 same) ∙ e) w w′ (y .counts) (y .joined) (y .long)
-                (subst (λ (D : Database ℕ). PlanRan D (planTrees q) (tableCount q) (tableCount q - 1) (blankings q) (y .counts) w w′ (y .joined)) whole
-                (subst (λ (k : ℕ). PlanRan Z (planTrees q) k (k - 1) (blankings q) (y .counts) w w′ (y .joined)) (tables-kept p)
-                (subst (λ (z : Query). PlanRan Z (planTrees z) (s .«table_count») (s .«table_count» - 1) (blankings z) (y .counts) w w′ (y .joined)) same
-                (y .ran))))
-                (y .handed ∙ handed-by s (y .counts) (y .joined)
-                ∙ ap₂ (λ (z : Query) (k : ℕ). handedBy z k (y .counts) (y .joined)) same (tables-kept p))
+              (subst (λ (D : Database ℕ). PlanRan D (planTrees q) (tableCount q) (tableCount q - 1) (blankings q) (y .counts) w w′ (y .joined)) whole
+              (subst (λ (k : ℕ). PlanRan Z (planTrees q) k (k - 1) (blankings q) (y .counts) w w′ (y .joined)) (tables-kept p)
+              (subst (λ (z : Query). PlanRan Z (planTrees z) (s .«table_count») (s .«table_count» - 1) (blankings z) (y .counts) w w′ (y .joined)) same
+              (y .ran))))
+              (y .handed ∙ handed-by s (y .counts) (y .joined)
+              ∙ ap₂ (λ (z : Query) (k : ℕ). handedBy z k (y .counts) (y .joined)) same (tables-kept p))
 
         nine-is : (b : Bool) → (leb (s .«pair_count») 7 && question9 (queryIn s)) ≡ b → Reported (reportOutcome bs) w w′ r
         unfolding plannedFor resultAfter
@@ -321,3 +325,15 @@ module _ {bs : Bytes} {s : StoredQuery} (p : Passed bs s) (passed : refusal bs �
 
         pub report-ran : Reported (reportOutcome bs) w w′ r
         report-ran = nine-is (leb (s .«pair_count») 7 && question9 (queryIn s)) refl
+
+-- a text that passes questions 2 to 7, asked by the code
+pub report-asked : {bs : Bytes} {s : StoredQuery} → Passed bs s → refusal bs ≡ none → (before after : List ℤ) → after ≡ runAfter bs before
+    → 4096 ≤ length before → (w w′ : List ℕ) {r : Planned} → QueryAsked (workspace after (s .layout) (s .conditions)) s w w′ r
+    → Reported (reportOutcome bs) w w′ r
+report-asked {bs} {s} p passed before after run room w w′ {r} x = go (question8 (queryIn s)) refl
+  where
+    go : (b : Bool) → question8 (queryIn s) ≡ b → Reported (reportOutcome bs) w w′ r
+    go true e = report-ran p passed e before after run room w w′ (x .rest e)
+    go false e =
+        let (f, g) = x .eight e in
+        subst (λ (z : List ℕ). Reported (reportOutcome bs) w z r) (sym g) (report-8 p passed e f)

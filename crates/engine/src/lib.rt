@@ -3,3 +3,4 @@ pub mod answer;
 pub mod clear;
 pub mod direct;
 pub mod planned;
+pub mod report;

@@ -21,11 +21,12 @@ ghost use Rattle.plan.specs.Words.{setWords};
 ghost use Rattle.plan.specs.StepWords.{listed};
 ghost use Rattle.joins.specs.Work.{workspace};
 ghost use Rattle.run.specs.Reading.{Readable};
-ghost use Rattle.engine.specs.Planning.{turnedDown, withCounts, blanksIn, StepsRun, QueryRun};
+ghost use Rattle.engine.specs.Planning.{turnedDown, withCounts, blanksIn, StepsRun, QueryRun, QueryAsked};
 
-// What a call of the engine hands over: its answer, each table's set, and the plan.
+// What a call of the engine hands over: its answer, the count of tables, each table's set, and the plan.
 pub struct Planned {
     pub answer: Answer,
+    pub tables: usize,
     pub sets: [u64; TABLES],
     pub plan: StepList,
 }
@@ -45,6 +46,7 @@ pub fn turned_down(number: u8) -> Planned
     let plan = StepList { steps, count: 0 };
     Planned {
         answer: Answer::Refused(number),
+        tables: 0,
         sets: [0u64; TABLES],
         plan,
     }
@@ -112,6 +114,7 @@ pub fn run_steps(
     match answer {
         Joined::Rows(n) => Planned {
             answer: Answer::Rows(n),
+            tables,
             sets,
             plan: with_counts(list, counts, pairs),
         },
@@ -133,4 +136,15 @@ pub fn run_query(q: StoredQuery, cells: &[i32], work: &mut [u16], result: &mut [
     }
     let list = plan::steps::steps_of(q, sets);
     run_steps(q, sets, list, cells, work, result)
+}
+
+// Questions 8 to 11 of a query that passed those before.
+pub fn ask_query(q: StoredQuery, cells: &[i32], work: &mut [u16], result: &mut [u16]) -> Planned
+    requires { ⌜ Counted q × Readable q × (1 ≤ q .«table_count») × T (question5 (queryIn q)) × (16384 ≤ length (now work)) × (2048 ≤ length (now result)) ⌝ }
+    ensures { λ r. ⌜ QueryAsked (workspace (now (cells .entry)) (q .layout) (q .conditions)) q (now (result .entry)) (now (result .exit)) r ⌝ }
+{
+    if !plan::simplified::is_simplified(q) {
+        return turned_down(8);
+    }
+    run_query(q, cells, work, result)
 }
