@@ -7,19 +7,20 @@ use Prim.Native.Nat.{ℕ, _+_, _-_, _≤_, _<_}
 use native.Mathlib.Omega.{arith}
 use lib.Dec.{leb}
 use lib.IntN.{ℤ, pos}
-use lib.ListN.{length, replicate}
+use lib.ListN.{length, replicate, length-map}
 use borrow.Author.Tests.{le-leb, lt-leb}
 use Rattle.cells.specs.Row.{Row}
 use Rattle.rows.specs.Rows.{ordered}
 use Rattle.rows.specs.Trees.{Database, rowsOf}
-use Rattle.plan.specs.Report.{queryOf}
+use Rattle.plan.specs.Report.{Report, queryOf, tableCount}
 use Rattle.plan.specs.Nodes.{treeAt, joinTrees}
 use Rattle.plan.specs.Questions.{question8}
 use Rattle.plan.specs.Stored.{queryIn}
 use Rattle.plan.specs.Counted.{Counted}
 use Rattle.plan.specs.declared.query.StoredQuery.{StoredQuery}
 use Rattle.text.specs.Bytes.{Bytes}
-use Rattle.text.specs.Reading.{reportOf}
+use Rattle.text.specs.Reading.{reportOf, readReport}
+use Rattle.text.specs.ReadingLaws.{read-report}
 use Rattle.reader.specs.declared.read.Answer as Read
 use Rattle.reader.specs.declared.read.Outcome.the-variants as O
 use Rattle.joins.specs.Work.{workspace}
@@ -30,8 +31,8 @@ use Rattle.accept.specs.Accept.{numberIn, refusal, Accepts, Passed}
 use Rattle.engine.specs.Answers.{Outcome, refused, answered, directOutcome}
 use Rattle.engine.specs.Asked.{passed-early, five-yes}
 use Rattle.engine.specs.Calls.{Lent, question1Direct, cleared, directAfter, DirectCall, directCall}
-use Rattle.engine.specs.Gave.{answerFor, resultFor, Gave, elevenOf, TreeRead}
-use Rattle.engine.specs.Kept.{counted, some-table}
+use Rattle.engine.specs.Gave.{answerFor, resultFor, Gave, elevenOf, TreeRead, tablesIn, Wide}
+use Rattle.engine.specs.Kept.{counted, tables-kept, some-table}
 use Rattle.engine.specs.Readable.{readable}
 use Rattle.engine.specs.DirectLaws.{direct-early, direct-passed}
 use Rattle.engine.specs.declared.answer.Answer.{Answer}
@@ -60,6 +61,12 @@ pub eleven-over : {j : Joined} → j ≡ J.TooMany → Refused 11 ≡ elevenOf j
 unfolding elevenOf
 eleven-over e = sym (ap elevenOf e)
 
+-- ---- the count of tables
+
+-- a refusal has none
+pub no-width : (bs : Bytes) (n tables : ℕ) → Wide bs (Refused n) tables
+no-width bs n tables k e = let z : _≡_ {A = ℕ} 0 1 = cc in absurd (omega arith)
+
 -- ---- a text
 
 module _ {bs : Bytes} {before after : List ℤ} {x : Read.Answer} (h : Accepts bs before after x) where
@@ -79,6 +86,17 @@ module _ {bs : Bytes} {before after : List ℤ} {x : Read.Answer} (h : Accepts b
     text-readable =
         let p = h .passed e in
         subst Readable (sym (p .kept)) (readable p (five-yes (reportOf (p .lines)) (passed-early bs (p .lines) (p .read) text-passed)))
+
+    pub text-width : {a : Answer} → Wide bs a (x .query .«table_count»)
+    unfolding tablesIn reportOf tableCount queryOf
+    text-width k f =
+        let p = h .passed e in
+        tables-kept p ∙ length-map ((reportOf (p .lines)) .tables) _ ∙ go (readReport bs) (read-report bs (p .lines) (p .read))
+      where
+        go : (o : Option Report) → o ≡ some (reportOf (h .passed e .lines)) → length ((reportOf (h .passed e .lines)) .tables)
+            ≡ (elim o as (λ z. ℕ) [ none ↦ 0 | some r ↦ length (r .tables) ])
+        go none g = let z : _≡_ {A = ℕ} 0 1 = cc in absurd (omega arith)
+        go (some r) g = let y : r ≡ reportOf (h .passed e .lines) = cc in ap (λ (z : Report). length (z .tables)) (sym y)
 
     pub text-tables : 1 ≤ x .query .«table_count»
     text-tables = some-table (h .passed e)

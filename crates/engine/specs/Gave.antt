@@ -2,6 +2,7 @@
 use mathlib.Core.Path.{_≡_}
 use mathlib.Core.Bool.{Bool, true, false}
 use mathlib.Core.List.{List}
+use mathlib.Core.Option.{none, some}
 use Prim.Native.Nat.{ℕ, _+_, _-_}
 use lib.ListN.{length}
 use Rattle.cells.specs.Row.{Row}
@@ -11,6 +12,8 @@ use Rattle.plan.specs.Nodes.{treeAt, joinTrees}
 use Rattle.plan.specs.Questions.{question8}
 use Rattle.plan.specs.Stored.{queryIn}
 use Rattle.plan.specs.declared.query.StoredQuery.{StoredQuery}
+use Rattle.text.specs.Bytes.{Bytes}
+use Rattle.text.specs.Reading.{readReport}
 use Rattle.joins.specs.declared.join.Joined.{Joined}
 use Rattle.joins.specs.declared.join.Joined.the-variants as J
 use Rattle.run.specs.Reading.{readOf, Handed}
@@ -45,3 +48,11 @@ pub record TreeRead (D : Database ℕ) (q : StoredQuery) (w w′ : List ℕ) (a 
   pub rows : question8 (queryIn q) ≡ true → (j : Joined) × (a ≡ elevenOf j)
       × Handed (readOf D (treeAt (joinTrees (queryIn q)) (q .«table_count» + q .«join_count» - 1)))
       (ordered (rowsOf D (treeAt (joinTrees (queryIn q)) (q .«table_count» + q .«join_count» - 1)))) (q .«table_count») w w′ j
+
+-- how many tables a text has
+unfoldable pub tablesIn : Bytes → ℕ
+tablesIn bs = elim (readReport bs) [ none ↦ 0 | some r ↦ length (r .tables) ]
+
+-- an answer's count of tables, which is how many numbers a row has
+abbrev pub Wide : Bytes → Answer → ℕ → Type 0
+Wide bs a tables = (k : ℕ) → a ≡ Rows k → tables ≡ tablesIn bs

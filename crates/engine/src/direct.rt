@@ -12,7 +12,7 @@ ghost use Rattle.joins.specs.Work.{workspace};
 ghost use Rattle.run.specs.Reading.{Readable};
 ghost use Rattle.engine.specs.Answers.{directOutcome};
 ghost use Rattle.engine.specs.Calls.{directCall};
-ghost use Rattle.engine.specs.Gave.{Gave, TreeRead};
+ghost use Rattle.engine.specs.Gave.{Gave, Wide, TreeRead};
 
 // Questions 8 and 11 of a query, and its rows.
 pub fn read_tree(q: StoredQuery, cells: &[i32], work: &mut [u16], result: &mut [u16]) -> Answer
@@ -29,18 +29,60 @@ pub fn read_tree(q: StoredQuery, cells: &[i32], work: &mut [u16], result: &mut [
     }
 }
 
+// What the direct reading of a text finds: its answer, and how many numbers a row has.
+pub struct Found {
+    pub answer: Answer,
+    pub tables: usize,
+}
+
 // Questions 2 to 8 and 11 of a text, and its rows. The cell run and the work buffer are left as they come.
-pub fn read_text(text: &[u8], cells: &mut [i32], work: &mut [u16], result: &mut [u16]) -> Answer
+pub fn read_text(text: &[u8], cells: &mut [i32], work: &mut [u16], result: &mut [u16]) -> Found
     requires { ⌜ (4096 ≤ length (now cells)) × (16384 ≤ length (now work)) × (2048 ≤ length (now result)) ⌝ }
-    ensures { λ r. ⌜ Gave (directOutcome (now (text .entry))) (now (result .entry)) (now (result .exit)) r ⌝ }
+    ensures { λ r. ⌜ Gave (directOutcome (now (text .entry))) (now (result .entry)) (now (result .exit)) (r .answer) × Wide (now (text .entry)) (r .answer) (r .tables) ⌝ }
 {
     let a = accept::accept::accept(text, cells);
     let outcome = a.outcome;
     let q = a.query;
     match outcome {
-        Outcome::Refused(n) => Answer::Refused(n),
-        Outcome::Accepted => read_tree(q, cells, work, result),
+        Outcome::Refused(n) => Found {
+            answer: Answer::Refused(n),
+            tables: 0,
+        },
+        Outcome::Accepted => Found {
+            answer: read_tree(q, cells, work, result),
+            tables: q.table_count as usize,
+        },
     }
+}
+
+// The direct reading with the count of tables: a call's answer and all lent memory are those of `directCall`, whatever is lent.
+pub fn find(text: &[u8], cells: &mut [i32], work: &mut [u16], result: &mut [u16]) -> Found
+    ensures { λ r. ⌜ (record { answer = r .answer; lent = record { cells = now (cells .exit); work = now (work .exit); result = now (result .exit) } }
+        ≡ directCall (now (text .entry)) (record { cells = now (cells .entry); work = now (work .entry); result = now (result .entry) }))
+        × Wide (now (text .entry)) (r .answer) (r .tables) ⌝ }
+{
+    if work.len() < 16384 {
+        return Found {
+            answer: Answer::Refused(1),
+            tables: 0,
+        };
+    }
+    if result.len() < 2048 {
+        return Found {
+            answer: Answer::Refused(1),
+            tables: 0,
+        };
+    }
+    if cells.len() < 4096 {
+        return Found {
+            answer: Answer::Refused(1),
+            tables: 0,
+        };
+    }
+    let f = read_text(text, cells, work, result);
+    crate::clear::clear_work(work);
+    crate::clear::clear_cells(cells);
+    f
 }
 
 // The direct reading: a call's answer and all lent memory are those of `directCall`, whatever is lent.
@@ -48,17 +90,6 @@ pub fn direct(text: &[u8], cells: &mut [i32], work: &mut [u16], result: &mut [u1
     ensures { λ r. ⌜ record { answer = r; lent = record { cells = now (cells .exit); work = now (work .exit); result = now (result .exit) } }
         ≡ directCall (now (text .entry)) (record { cells = now (cells .entry); work = now (work .entry); result = now (result .entry) }) ⌝ }
 {
-    if work.len() < 16384 {
-        return Answer::Refused(1);
-    }
-    if result.len() < 2048 {
-        return Answer::Refused(1);
-    }
-    if cells.len() < 4096 {
-        return Answer::Refused(1);
-    }
-    let a = read_text(text, cells, work, result);
-    crate::clear::clear_work(work);
-    crate::clear::clear_cells(cells);
-    a
+    let f = find(text, cells, work, result);
+    f.answer
 }

@@ -1,5 +1,5 @@
 -- `engine::direct::read_text` meets its contract: the refusal of questions 2 to 7, or the tree read. Assumes nothing.
-use Rattle.engine.specs.DirectCode.{text-refused, text-counted, text-readable, text-tables, text-read}
+use Rattle.engine.specs.DirectCode.{no-width, text-refused, text-counted, text-readable, text-width, text-tables, text-read}
 use borrow.Author.Needs.{needs}
 use Rattle.engine.proofs.direct.read_text.Statement.{statement}
 use Rattle.engine.proofs.direct.read_text.Tie as tie
@@ -21,13 +21,16 @@ read-tree-requires c κs =
     let e = t .enum-told .given .1 in
     (text-counted (x .accept .ensures) e, text-readable (x .accept .ensures) e, text-tables (x .accept .ensures) e, s .pre .1, s .pre .2)
 
+cast-t20 : tie.Need-cast-t20
+cast-t20 c = search needs
+
 same-length : tie.Need-same-length
 same-length c = search needs
 
 returns : tie.Need-returns
 returns c =
     let x = c .before .before .before .before .before in
-    text-refused (x .accept .ensures) (c .before .outcome .given .1)
+    (text-refused (x .accept .ensures) (c .before .outcome .given .1), no-width _ _ _)
 
 same-length-2 : tie.Need-same-length-2
 same-length-2 c = search needs
@@ -40,11 +43,12 @@ same-length-4 c = search needs
 
 returns-2 : tie.Need-returns-2
 returns-2 c =
-    let d = c .before .before .before .before in
+    let d = c .before .before .before .before .before in
     let t = d .before .before .before .before in
     let x = t .before .before .before .before in
     let s = x .before .before .before .before .before in
-    text-read (x .accept .ensures) (t .enum-told .given .1) (s .pre .0) (d .read-tree .ensures)
+    let e = t .enum-told .given .1 in
+    (text-read (x .accept .ensures) e (s .pre .0) (d .read-tree .ensures), text-width (x .accept .ensures) e)
 
 pub read-text-spec : {M : Type 1} → statement M
 read-text-spec =
@@ -54,6 +58,7 @@ read-text-spec =
     enum-known-outcome
     enum-told
     read-tree-requires
+    cast-t20
     same-length
     returns
     same-length-2
