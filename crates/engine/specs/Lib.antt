@@ -21,3 +21,4 @@ pub mod Planning
 pub mod PlanningLaws
 pub mod ReportLaws
 pub mod ReportCode
+pub mod Bounds
