@@ -1,16 +1,16 @@
 -- An answer has at most 256 rows, each with a number for every table. Assumes nothing.
 use mathlib.Core.Path.{_≡_, refl, sym, ap, _∙_, subst}
 use mathlib.Core.Bool.{Bool, true, false, not, _&&_}
-use mathlib.Core.List.{List, [], _∷_, _++_, map}
+use mathlib.Core.List.{List, [], _∷_, _++_, map, zipWith}
 use mathlib.Core.Option.{Option, none, some}
-use Prim.Native.Nat.{ℕ, suc, _<_, _≤_}
+use Prim.Native.Nat.{ℕ, suc, _+_, _<_, _≤_}
 use native.Mathlib.Omega.{arith}
-use lib.Dec.{T, leb}
-use lib.ListN.{length, length-map}
-use mir.Facts.{and-yes, leb-yes}
+use lib.Dec.{T, leb, eqb}
+use lib.ListN.{length, length-map, length-append}
+use mir.Facts.{and-yes, leb-yes, eqb-yes}
 use Rattle.cells.specs.Choice.{if_then_else_}
 use Rattle.cells.specs.Row.{Row, blankRow}
-use Rattle.rows.specs.Lists.{all, any, keep, distinct}
+use Rattle.rows.specs.Lists.{range, all, any, keep, distinct}
 use Rattle.rows.specs.ListLaws.{_isIn_, here, there}
 use Rattle.rows.specs.Rows.{same, ordered, whollyBlank, dominated, bestMatch}
 use Rattle.rows.specs.RowLaws.{length-ordered}
@@ -19,14 +19,16 @@ use Rattle.rows.specs.Trees.{Database, Tree, rowsOf}
 use Rattle.rows.specs.TreeLaws.{rows-valid}
 use Rattle.rows.specs.Nullification.{Blanking, nullifyAll, finished, planRows}
 use Rattle.rows.specs.NullificationLaws.{nullifyRow, nullifyAll-map}
-use Rattle.plan.specs.Report.{Table, Report, Query, queryOf, tableCount, joinOrder}
+use Rattle.plan.specs.Report.{Table, Report, Query, queryOf, tableCount, tableNumbers, joinOrder}
 use Rattle.plan.specs.Nodes.{joinTrees, joinTree}
-use Rattle.plan.specs.Plan.{planTrees, planTree, blankings}
+use Rattle.plan.specs.Plan.{plannedJoins, planTrees, planTree, missing, asks, blankings}
+use Rattle.plan.specs.BuiltLaws.{length-range}
+use Rattle.plan.specs.PairWordLaws.{planned-count}
 use Rattle.plan.specs.PlanLaws.{plan-matched, order-built, plan-shaped}
-use Rattle.plan.specs.Questions.{wellBuilt, question9, question10}
+use Rattle.plan.specs.Questions.{lowerSides, sidesOf, noneTwice, wellBuilt, question9, question10}
 use Rattle.plan.specs.FoldWords.{blanking-proper}
 use Rattle.plan.specs.Sets.{blankingSets}
-use Rattle.plan.specs.Steps.{bitsOf}
+use Rattle.plan.specs.Steps.{bitsOf, pairStep, blankingStep, bestMatchStep, stepsOf}
 use Rattle.plan.specs.QueryLaws.{Accepted, query-matched, query-built, query-shaped}
 use Rattle.plan.specs.StepLaws.{keep-fewer}
 use Rattle.text.specs.Bytes.{Bytes}
@@ -37,7 +39,7 @@ use Rattle.run.specs.Database.{databaseOf, rowsIn, cellsOf, database}
 use Rattle.run.specs.DatabaseLaws.{lawful, lawful-names, database-width}
 use Rattle.run.specs.LimitLaws.{within256, within-small, results-whole}
 use Rattle.run.specs.Padding.{finished-wide}
-use Rattle.run.specs.Runs.{results, withinLimit, directRows, question11Direct, runRows, reportRows, question11}
+use Rattle.run.specs.Runs.{results, withinLimit, directRows, question11Direct, runRows, reportRows, pairCounts, reportSteps, question11}
 use Rattle.engine.specs.Answers.{Outcome, refused, answered, Question, firstNo, sharedQuestions, orderQuestions, directQuestions, reportQuestions, outcomeFor, outcomeBy, ReportAnswer, reportAnswer, reportOutcome, directOutcome}
 use Rattle.engine.specs.AnswerLaws.{first-yes, all-yes, append-yes, report-accepted, rows-limit, few-rows}
 use Rattle.engine.specs.Gave.{tablesIn}
@@ -68,6 +70,37 @@ finished-fewer D [] rows = omega (arith, length-ordered rows)
 finished-fewer D (s ∷ L) rows =
     let n : length (nullifyAll D (s ∷ L) rows) ≡ length rows = ap length (nullifyAll-map D (s ∷ L) rows) ∙ length-map rows (nullifyRow D (s ∷ L)) in
     omega (arith, length-ordered (bestMatch (nullifyAll D (s ∷ L) rows)), best-fewer (nullifyAll D (s ∷ L) rows), n)
+
+-- a plan has a step for each pair, at most one for each table, and best match
+zip-fewer : {A B C : Type 0} (f : A → B → C) (l : List A) (m : List B) → length (zipWith f l m) ≤ length l
+unfolding zipWith
+zip-fewer f [] m = omega arith
+zip-fewer f (x ∷ l) [] = omega arith
+zip-fewer f (x ∷ l) (y ∷ m) = let h = zip-fewer f l m in omega arith
+
+best-one : (L : List (Blanking ℕ)) → length (bestMatchStep L) ≤ 1
+unfolding bestMatchStep
+best-one [] = omega arith
+best-one (s ∷ L) = omega arith
+
+pub plan-steps : (q : Query) (counts : List ℕ) → length (stepsOf q counts) ≤ length (joinOrder q) + tableCount q + 1
+unfolding stepsOf blankings tableNumbers
+plan-steps q counts =
+    let A = zipWith pairStep (plannedJoins q) counts in
+    let B = map blankingStep (blankings q) in
+    let C = bestMatchStep (blankings q) in
+    omega (
+      arith,
+      length-append (A ++ B) C,
+      length-append A B,
+      zip-fewer pairStep (plannedJoins q) counts,
+      planned-count q,
+      length-map (blankings q) blankingStep,
+      keep-fewer (asks q) (map (λ (t : ℕ). (t, missing q t)) (range 0 (tableCount q))),
+      length-map {B = Blanking ℕ} (range 0 (tableCount q)) (λ (t : ℕ). (t, missing q t)),
+      length-range 0 (tableCount q),
+      best-one (blankings q),
+    )
 
 module _ (ls : List Line) (accepted : firstNo sharedQuestions (reportOf ls) ≡ none) where
   abbrev r : Report
@@ -124,6 +157,14 @@ module _ (ls : List Line) (accepted : firstNo sharedQuestions (reportOf ls) ≡ 
   module _ (nine : T (question9 q)) where
     built : T (wellBuilt (tableCount q) (joinOrder q))
     built = order-built q (ok .five) nine
+
+    pub steps-few : length (reportSteps r) ≤ 16
+    unfolding reportSteps wellBuilt
+    steps-few =
+        let n = length (joinOrder q) in
+        let (a, _) = and-yes (eqb (suc n) (tableCount q) && lowerSides (tableCount q) (joinOrder q)) (noneTwice (sidesOf (joinOrder q))) built in
+        let e : suc n ≡ tableCount q = eqb-yes (and-yes (eqb (suc n) (tableCount q)) (lowerSides (tableCount q) (joinOrder q)) a .0) in
+        omega (arith, plan-steps q (pairCounts r), e, tables-few)
 
     pub report-few : T (question11 r) → length (reportRows r) ≤ 256
     unfolding question11 withinLimit results planTree planTrees reportRows runRows planRows
@@ -186,7 +227,7 @@ module _ (bs : Bytes) where
       (subst (Bounded (tableCount (queryOf (reportOf ls)))) h
       (record { eight = tables-few ls x; few = direct-few ls x z; wide = direct-wide ls x }))
 
-  pub report-bounded : (a : ReportAnswer) → reportOutcome bs ≡ answered a → Bounded (length (a .sets)) (a .rows)
+  pub report-bounded : (a : ReportAnswer) → reportOutcome bs ≡ answered a → Bounded (length (a .sets)) (a .rows) × (length (a .steps) ≤ 16)
   unfolding reportOutcome reportQuestions orderQuestions reportAnswer
   report-bounded a e =
       let (ls, f, g, h) = answered-lines reportQuestions reportAnswer bs a e in
@@ -196,6 +237,8 @@ module _ (bs : Bytes) where
       let (z, _) = first-yes (11, λ (r : Report). question11 r) [] (reportOf ls) k in
       let q = queryOf (reportOf ls) in
       let n : tableCount q ≡ length (map bitsOf (blankingSets q)) = sym (length-map (blankingSets q) bitsOf ∙ blanking-proper q .each) in
-      subst (λ (b : ReportAnswer). Bounded (length (b .sets)) (b .rows)) h
-      (subst (λ (m : ℕ). Bounded m (reportRows (reportOf ls))) n
-      (record { eight = tables-few ls x; few = report-few ls x nine z; wide = report-wide ls x nine }))
+      subst (λ (b : ReportAnswer). Bounded (length (b .sets)) (b .rows) × (length (b .steps) ≤ 16)) h (
+        subst (λ (m : ℕ). Bounded m (reportRows (reportOf ls))) n
+            (record { eight = tables-few ls x; few = report-few ls x nine z; wide = report-wide ls x nine }),
+        steps-few ls x nine,
+      )
