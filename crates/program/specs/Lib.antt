@@ -1,0 +1,3 @@
+pub mod PrintedCalls
+pub mod DirectPrint
+pub mod ReportPrint
