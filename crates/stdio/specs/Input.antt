@@ -1,4 +1,5 @@
 -- How much was read. Assumes nothing.
+use mathlib.Core.Path.{_≡_, subst}
 use Prim.Native.Nat.{ℕ, _≤_}
 use Rattle.stdio.specs.declared.Input.{Input}
 use Rattle.stdio.specs.declared.Input.the-variants.{Bytes, Failed}
@@ -7,3 +8,6 @@ use Rattle.stdio.specs.declared.Input.the-variants.{Bytes, Failed}
 abbrev pub Within : Input → ℕ → Type 0
 Within (Bytes n) size = n ≤ size
 Within Failed size = Unit {0}
+
+pub bytes-read : {r : Input} {size : ℕ} (n : ℕ) → Within r size → r ≡ Bytes n → n ≤ size
+bytes-read {r} {size} n h e = subst (λ (z : Input). Within z size) e h
