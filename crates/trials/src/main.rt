@@ -1,105 +1,173 @@
-// Texts from standard input. Each is a name, `#`, the text and `~`; for each its name is printed and the number of the first of
-// questions 2 to 7 and 9 that turns it down, or 0. Where the name begins with `=`, the sets and the plan of a text that is not
-// turned down follow; no pair was joined, so each count of rows is 0.
-use plan::blanking;
-use plan::query::StoredQuery;
-use plan::steps;
+// Texts from standard input. Each is a name, `#`, the text and `~`; for each both exported routines are called, and each call has its
+// line. Where a name begins with `=`, the answers are printed too. What follows that mark, or begins the name, chooses the lent memory:
+// `-` and c, w or r, the cell run, the work buffer or the result buffer one number shorter than question 1 wants; `+`, all of them
+// larger; anything else, what question 1 wants.
+mod calls;
+mod memory;
+
 use print::whole;
-use print::whole::Printed;
-use questions::built;
-use reader::read::Outcome;
 use text::part;
-ghost use Rattle.plan.specs.Counted.{Counted};
+ghost use Prim.Native.Nat.{_≤_};
 
 // What ends a name, and what ends a text.
 const NAME: u8 = 35;
 
 const TEXT: u8 = 126;
 
-// What a name begins with whose plan is printed.
-const PLAN: u8 = 61;
+// The marks of a name: the answers are printed; larger memory is lent; memory that is too short is lent.
+const PRINTED: u8 = 61;
 
-// A number behind a name.
-fn number(n: u64) {
-    let space = [b' '];
-    io::write_all(1, &space);
-    io::print_decimal(1, n);
-    let line = [b'\n'];
-    io::write_all(1, &line);
+const LARGER: u8 = 43;
+
+const SHORTER: u8 = 45;
+
+// Room for the input.
+const INPUT: usize = 131072;
+
+// How much is lent.
+struct Lent {
+    cells: usize,
+    work: usize,
+    result: usize,
 }
 
-// The sets and the plan of a query.
-fn show(q: StoredQuery, out: &mut [u8])
-    requires { ⌜ Counted q ⌝ }
+// What question 1 wants.
+const CELLS: usize = 4096;
+
+const WORK: usize = 16384;
+
+const RESULT: usize = 2048;
+
+// How much more is lent where it is larger.
+const MORE: usize = 100;
+
+// One number too few, by the letter of the memory.
+fn shorter(letter: u8) -> Lent {
+    if letter == b'c' {
+        return Lent {
+            cells: CELLS - 1,
+            work: WORK,
+            result: RESULT,
+        };
+    }
+    if letter == b'w' {
+        return Lent {
+            cells: CELLS,
+            work: WORK - 1,
+            result: RESULT,
+        };
+    }
+    Lent {
+        cells: CELLS,
+        work: WORK,
+        result: RESULT - 1,
+    }
+}
+
+// What a mark and the letter behind it choose.
+fn sizes_of(mark: u8, letter: u8) -> Lent {
+    if mark == SHORTER {
+        return shorter(letter);
+    }
+    if mark == LARGER {
+        return Lent {
+            cells: CELLS + MORE,
+            work: WORK + MORE,
+            result: RESULT + MORE,
+        };
+    }
+    Lent {
+        cells: CELLS,
+        work: WORK,
+        result: RESULT,
+    }
+}
+
+// A byte; 0 behind the end.
+fn byte_at(s: &[u8], i: usize) -> u8 {
+    if i < s.len() {
+        return s[i];
+    }
+    0
+}
+
+// What the marks of a name choose.
+fn lent_for(name: &[u8], shown: bool) -> Lent {
+    if shown {
+        return sizes_of(byte_at(name, 1), byte_at(name, 2));
+    }
+    sizes_of(byte_at(name, 0), byte_at(name, 1))
+}
+
+fn least(a: usize, b: usize) -> usize
+    ensures { λ r. ⌜ r ≤ b ⌝ }
 {
-    if !built::joins_built(q) {
-        return;
+    if a < b {
+        return a;
     }
-    if !built::order_built(q) {
-        return;
-    }
-    let sets = blanking::blanking_sets(q);
-    let list = steps::steps_of(q, sets);
-    let steps = list.steps;
-    let count = list.count;
-    let result = [0u16; 1];
-    let p = whole::print_report(out, sets, q.table_count as usize, steps, count, &result, 0);
-    let Printed::Bytes(n) = p else {
-        return;
-    };
-    if n <= out.len() {
-        io::write_all(1, &out[..n]);
-    }
+    b
 }
 
-// Question 9 of a text that passed 2 to 7, and its plan where it is asked for.
-fn later(q: StoredQuery, planned: bool, out: &mut [u8])
-    requires { ⌜ Counted q ⌝ }
-{
-    if !built::order_built(q) {
-        number(9);
-        return;
-    }
-    number(0);
-    if planned {
-        show(q, out);
-    }
-}
-
-fn answer(report: &[u8], planned: bool, run: &mut [i32], out: &mut [u8]) {
-    let a = accept::accept::accept(report, run);
-    let outcome = a.outcome;
-    let query = a.query;
-    match outcome {
-        Outcome::Refused(n) => number(n as u64),
-        Outcome::Accepted => later(query, planned, out),
-    }
+// Both routines with lent memory of these sizes.
+fn lend(
+    name: &[u8],
+    report: &[u8],
+    shown: bool,
+    s: Lent,
+    cells: &mut [i32],
+    work: &mut [u16],
+    result: &mut [u16],
+    out: &mut [u8],
+) {
+    let c = least(s.cells, cells.len());
+    let w = least(s.work, work.len());
+    let r = least(s.result, result.len());
+    calls::both(
+        name,
+        report,
+        shown,
+        &mut cells[..c],
+        &mut work[..w],
+        &mut result[..r],
+        out,
+    );
 }
 
 // One name and text.
-fn trial(case: &[u8], run: &mut [i32], out: &mut [u8]) {
+fn trial(case: &[u8], cells: &mut [i32], work: &mut [u16], result: &mut [u16], out: &mut [u8]) {
     let name = part::part_end(case, 0, NAME);
     if case.len() <= name {
         return;
     }
-    io::write_all(1, &case[..name]);
-    let planned = case[0] == PLAN;
-    answer(&case[name + 1..], planned, run, out);
+    let shown = case[0] == PRINTED;
+    let s = lent_for(case, shown);
+    lend(
+        &case[..name],
+        &case[name + 1..],
+        shown,
+        s,
+        cells,
+        work,
+        result,
+        out,
+    );
 }
 
-fn trials(input: &[u8], run: &mut [i32], out: &mut [u8]) {
+fn trials(input: &[u8], cells: &mut [i32], work: &mut [u16], result: &mut [u16], out: &mut [u8]) {
     let mut at = 0;
     while at < input.len() {
         let to = part::part_end(input, at, TEXT);
-        trial(&input[at..to], run, out);
+        trial(&input[at..to], cells, work, result, out);
         at = to + 1;
     }
 }
 
 fn main() {
-    let mut input = io::large_buffer();
-    let mut run = [0i32; 4096];
-    let mut out = [0u8; 32768];
+    let mut input = [0u8; INPUT];
+    let mut cells = [0i32; CELLS + MORE];
+    let mut work = [0u16; WORK + MORE];
+    let mut result = [0u16; RESULT + MORE];
+    let mut out = [0u8; whole::PRINT_ROOM];
     let n = io::read_full(0, &mut input);
-    trials(&input[..n], &mut run, &mut out);
+    trials(&input[..n], &mut cells, &mut work, &mut result, &mut out);
 }

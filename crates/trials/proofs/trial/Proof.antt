@@ -11,37 +11,41 @@ part-end-requires c κs = search needs
 returns : tie.Need-returns
 returns c = search needs
 
-slice-aggregate-write-all : tie.Need-slice-aggregate-write-all
-slice-aggregate-write-all c =
-    let p = c .before .before in
-    sym (length-take-le (p .part-end .result) (p .before .before .before .args .case .now) (p .part-end .ensures .2))
+shared-slice-read-shown : tie.Need-shared-slice-read-shown
+shared-slice-read-shown c = search needs
 
-write-all-requires : tie.Need-write-all-requires
-write-all-requires c κs = search needs
+lent-for-requires : tie.Need-lent-for-requires
+lent-for-requires c κs = search needs
 
-shared-slice-read-planned : tie.Need-shared-slice-read-planned
-shared-slice-read-planned c = search needs
+slice-aggregate-lend : tie.Need-slice-aggregate-lend
+slice-aggregate-lend c = sym (length-take-le _ _ (c .before .before .before .before .part-end .ensures .2))
 
-add-answer : tie.Need-add-answer
-add-answer c = search needs
+add-lend : tie.Need-add-lend
+add-lend c = search needs
 
-sub-answer : tie.Need-sub-answer
-sub-answer c = search needs
+sub-lend : tie.Need-sub-lend
+sub-lend c = search needs
 
-part-answer-start : tie.Need-part-answer-start
-part-answer-start c = search needs
+part-lend-start : tie.Need-part-lend-start
+part-lend-start c = search needs
 
-part-answer-end : tie.Need-part-answer-end
-part-answer-end c = search needs
+part-lend-end : tie.Need-part-lend-end
+part-lend-end c = search needs
 
-answer-requires : tie.Need-answer-requires
-answer-requires c κs = search needs
+lend-requires : tie.Need-lend-requires
+lend-requires c κs = search needs
 
 same-length : tie.Need-same-length
 same-length c = search needs
 
 same-length-2 : tie.Need-same-length-2
 same-length-2 c = search needs
+
+same-length-3 : tie.Need-same-length-3
+same-length-3 c = search needs
+
+same-length-4 : tie.Need-same-length-4
+same-length-4 c = search needs
 
 returns-2 : tie.Need-returns-2
 returns-2 c = search needs
@@ -52,14 +56,16 @@ trial-spec =
     (tie.spec
     part-end-requires
     returns
-    slice-aggregate-write-all
-    write-all-requires
-    shared-slice-read-planned
-    add-answer
-    sub-answer
-    part-answer-start
-    part-answer-end
-    answer-requires
+    shared-slice-read-shown
+    lent-for-requires
+    slice-aggregate-lend
+    add-lend
+    sub-lend
+    part-lend-start
+    part-lend-end
+    lend-requires
     same-length
     same-length-2
+    same-length-3
+    same-length-4
     returns-2)

@@ -1,20 +1,20 @@
 -- `trials::trials` meets its contract: each turn begins further on. Assumes nothing.
+use borrow.Author.Needs.{needs}
 use mathlib.Core.Path.{_≡_, refl}
 use Prim.Native.Nat.{_+_, _≤_, _-_}
 use native.Mathlib.Omega.{arith}
-use borrow.Author.Needs.{needs}
 use lib.ListN.{length}
 use Rattle.trials.proofs.trials.Statement.{statement}
 use Rattle.trials.proofs.trials.Tie as tie
 
 abbrev Inv-loop : tie.InvT-loop
-Inv-loop input run₀ out₀ at₀ run out at = (at ≤ length input + 1) × (length run ≡ length run₀) × (length out ≡ length out₀)
+Inv-loop input cells₀ work₀ result₀ out₀ at₀ cells work result out at = (at ≤ length input + 1) × (length cells ≡ length cells₀) × (length work ≡ length work₀) × (length result ≡ length result₀) × (length out ≡ length out₀)
 
 abbrev μ-loop : tie.MeasureT-loop
-μ-loop input run₀ out₀ at₀ run out at = length input + 1 - at
+μ-loop input cells₀ work₀ result₀ out₀ at₀ cells work result out at = length input + 1 - at
 
 loop-holds : tie.Need-loop-holds Inv-loop μ-loop
-loop-holds c = (omega arith, refl, refl)
+loop-holds c = (omega arith, refl, refl, refl, refl)
 
 part-end-requires : tie.Need-part-end-requires Inv-loop μ-loop
 part-end-requires c κs = search needs
@@ -46,6 +46,12 @@ same-length c = search needs
 same-length-2 : tie.Need-same-length-2 Inv-loop μ-loop
 same-length-2 c = search needs
 
+same-length-3 : tie.Need-same-length-3 Inv-loop μ-loop
+same-length-3 c = search needs
+
+same-length-4 : tie.Need-same-length-4 Inv-loop μ-loop
+same-length-4 c = search needs
+
 returns : tie.Need-returns Inv-loop μ-loop
 returns c = search needs
 
@@ -66,4 +72,6 @@ trials-spec =
     loop-again
     same-length
     same-length-2
+    same-length-3
+    same-length-4
     returns)
