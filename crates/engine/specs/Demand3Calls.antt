@@ -56,3 +56,11 @@ calls-agree first second a b s m k steps hm hk = rw (direct-call first m hm, rep
     cases (report-limit e) = report-11 (rw e refl)
     cases (both-answer rows x e f g) = same-answer rows (rw e refl) (rw f (ap (λ (r : List Row). Rows (length r)) g)) (rw e refl)
         (rw f (ap (λ (r : List Row). written r (k .result)) g))
+
+-- What the contracts of the two routines say is enough: d and r are what they hand over, with lent memory afterwards
+pub routines-agree : (first second : Bytes) (a b : List Line) → SameQuery first second a b → (m k : Lent) (steps : List Step)
+    → T (question1Direct m) → T (question1 k steps) → (d : DirectCall) → d ≡ directCall first m → (r : ReportCall) → r ≡ reportCall second k steps
+    → CallsAgree d r (m .result) (k .result)
+routines-agree first second a b s m k steps hm hk d e r f =
+    subst (λ (x : DirectCall). CallsAgree x r (m .result) (k .result)) (sym e)
+    (subst (λ (y : ReportCall). CallsAgree (directCall first m) y (m .result) (k .result)) (sym f) (calls-agree first second a b s m k steps hm hk))
