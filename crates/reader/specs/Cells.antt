@@ -9,7 +9,7 @@ use native.Mathlib.Omega.{arith}
 use lib.Dec.{T, eqb, ltb}
 use lib.IntN.{ℤ}
 use lib.ListN.{length, drop, getD, replicate, length-map, length-replicate, List·getD-eq-default}
-use lib.Seq.{sets, sets-eq, getD-append-add, getD-drop}
+use lib.Seq.{sets}
 use borrow.Author.Tests.{le-ltb, ltb-true, ltb-false}
 use Rattle.cells.specs.Choice.{if_then_else_}
 use Rattle.cells.specs.Cell.{blankCell}
@@ -25,7 +25,7 @@ use Rattle.load.specs.Flat.{flatTables}
 use Rattle.reader.specs.State.{noTables, closedRows}
 use Rattle.reader.specs.Survey.{start}
 use Rattle.reader.specs.Kept.{columns-kept}
-use Rattle.reader.specs.Query.{storedOf, done, after-tables}
+use Rattle.reader.specs.Query.{storedOf, done, after-tables, sets-behind}
 use Rattle.reader.specs.Looked.{Wide, noTable, cells-looked}
 use Rattle.reader.specs.declared.tables.Tables.{Tables}
 
@@ -39,14 +39,7 @@ zeros (suc n) (suc i) = zeros n i
 
 -- behind the values that were stored in an array of zeros there are zeros
 sets-beyond : (n : ℕ) (vs : List ℕ) (t : ℕ) → length vs ≤ n → length vs ≤ t → getD (sets (none n) 0 vs) t 0 ≡ 0
-sets-beyond n vs t h k =
-    let i : 0 + length vs ≤ length (none n) = rw length-replicate (omega arith) in
-    let e : t ≡ length vs + (t - length vs) = omega arith in
-    ap (λ (l : List ℕ). getD l t 0) (sets-eq vs (none n) 0 i)
-    ∙ ap (λ (x : ℕ). getD (vs ++ drop (0 + length vs) (none n)) x 0) e
-    ∙ getD-append-add vs (drop (0 + length vs) (none n)) (t - length vs) 0
-    ∙ getD-drop (0 + length vs) (none n) (t - length vs) 0
-    ∙ zeros n (0 + length vs + (t - length vs))
+sets-beyond n vs t h k = sets-behind (none n) vs t 0 (rw length-replicate h) k ∙ zeros n t
 
 true-of : (b : Bool) → T b → b ≡ true
 true-of true h = refl

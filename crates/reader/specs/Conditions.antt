@@ -9,7 +9,7 @@ use native.Mathlib.Omega.{arith}
 use lib.Dec.{ltb}
 use lib.IntN.{ℤ}
 use lib.ListN.{length, take, drop, getD, replicate, length-replicate, List·getD-eq-default}
-use lib.Seq.{sets, sets-eq, getD-append-add, getD-drop, getD-take}
+use lib.Seq.{sets, getD-take}
 use borrow.Author.Tests.{ltb-true, ltb-false}
 use Rattle.cells.specs.Row.{Row, at}
 use Rattle.cells.specs.Condition.{Cells, cellIn, sideIn, trueIn}
@@ -24,7 +24,7 @@ use Rattle.text.specs.Reading.{conditionsOf, reportOf}
 use Rattle.reader.specs.State.{noJoins}
 use Rattle.reader.specs.Survey.{start}
 use Rattle.reader.specs.Kept.{conditions-kept}
-use Rattle.reader.specs.Query.{storedOf, done, after-joins, kept-conditions}
+use Rattle.reader.specs.Query.{storedOf, done, after-joins, kept-conditions, sets-behind}
 use Rattle.reader.specs.declared.joins.Joins.{Joins}
 
 -- cells that are the same everywhere make the same conditions true
@@ -53,13 +53,7 @@ replicated (suc n) (suc i) z e = replicated n i z e
 behind : (n : ℕ) (z : Condition) (vs : List Condition) (t : ℕ) → z .operator ≡ 0 → length vs ≤ n → length vs ≤ t
     → getD (sets (replicate n z) 0 vs) t noCondition .operator ≡ 0
 behind n z vs t o h k =
-    let i : 0 + length vs ≤ length (replicate n z) = rw length-replicate (omega arith) in
-    let e : t ≡ length vs + (t - length vs) = omega arith in
-    ap (λ (l : List Condition). getD l t noCondition .operator) (sets-eq vs (replicate n z) 0 i)
-    ∙ ap (λ (x : ℕ). getD (vs ++ drop (0 + length vs) (replicate n z)) x noCondition .operator) e
-    ∙ ap (λ (x : Condition). x .operator) (getD-append-add vs (drop (0 + length vs) (replicate n z)) (t - length vs) noCondition)
-    ∙ ap (λ (x : Condition). x .operator) (getD-drop (0 + length vs) (replicate n z) (t - length vs) noCondition)
-    ∙ replicated n (0 + length vs + (t - length vs)) z o
+    ap (λ (x : Condition). x .operator) (sets-behind (replicate n z) vs t noCondition (rw length-replicate h) k) ∙ replicated n t z o
 
 module _ (ls : List Line) (fits : length (conditionsOf ls) ≤ 32) where
   beyond : (c : ℕ) → length (conditionsOf ls) ≤ c → getD ((storedOf (done ls)) .conditions) c noCondition .operator ≡ 0

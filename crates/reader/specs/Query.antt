@@ -6,8 +6,8 @@ use Prim.Native.Nat.{ℕ, zero, suc, _+_, _-_, _<_, _≤_}
 use native.Mathlib.Nat.{zero-add, add-zero}
 use native.Mathlib.Omega.{arith}
 use lib.Dec.{leb, eqb}
-use lib.ListN.{length, take, drop, set, replicate, length-set, length-map}
-use lib.Seq.{sets, sets-eq, set-out, take-append-seam, take-all, length-sets, length-take-le}
+use lib.ListN.{length, take, drop, getD, set, replicate, length-set, length-map}
+use lib.Seq.{sets, sets-eq, getD-append-add, getD-drop, set-out, take-append-seam, take-all, length-sets, length-take-le}
 use borrow.Author.Tests.{le-leb, lt-leb, leb-true, leb-false, ne-eqb}
 use Rattle.cells.specs.declared.condition.Condition.{Condition}
 use Rattle.rows.specs.Lists.{all}
@@ -129,6 +129,18 @@ module _ {A : Type 0} where
       go ih (suc n) e =
           let g : length (set l i v) - suc i ≡ n = rw (length-set l i v) (omega arith) in
           ih ∙ rw g
+
+  -- behind the values the array is as it was
+  pub sets-behind : (l vs : List A) (t : ℕ) (d : A) → length vs ≤ length l → length vs ≤ t → getD (sets l 0 vs) t d ≡ getD l t d
+  sets-behind l vs t d h k =
+      let n : 0 + length vs ≤ length l = omega arith in
+      let e : t ≡ length vs + (t - length vs) = omega arith in
+      let b : 0 + length vs + (t - length vs) ≡ t = omega arith in
+      ap (λ (x : List A). getD x t d) (sets-eq vs l 0 n)
+      ∙ ap (λ (i : ℕ). getD (vs ++ drop (0 + length vs) l) i d) e
+      ∙ getD-append-add vs (drop (0 + length vs) l) (t - length vs) d
+      ∙ getD-drop (0 + length vs) l (t - length vs) d
+      ∙ ap (λ (i : ℕ). getD l i d) b
 
   pub sets-kept : (l vs : List A) → take (length vs) (sets l 0 vs) ≡ take (length l) vs
   sets-kept l vs = go (leb (length vs) (length l)) refl

@@ -1,0 +1,85 @@
+#!/usr/bin/env python3
+"""Writes the reports that are timed, and their SQL, into a folder.
+
+    reports.py FOLDER
+
+Each report is NAME.in, with NAME.load.sql (its tables) and NAME.query.sql (its rows).
+"""
+import os
+import random
+import sys
+
+TOP = os.path.join(os.path.dirname(os.path.abspath(__file__)), "..")
+sys.dont_write_bytecode = True
+sys.path.insert(0, os.path.join(TOP, "tests", "sql"))
+import translate                                                        # noqa: E402
+
+
+def line(*fields):
+    return "\t".join(str(field) for field in fields) + "\n"
+
+
+def table(columns, rows):
+    return line("T", columns) + "".join(line("D", *row) for row in rows)
+
+
+def keys(random, count, start=0):
+    """Each number once, in a random sequence."""
+    numbers = list(range(start, start + count))
+    random.shuffle(numbers)
+    return [[number] for number in numbers]
+
+
+def chain(count, kind, conditions, order=()):
+    """Tables 0, 1, .. joined one after another to table 0."""
+    text, node = "", 0
+    for t in range(1, count):
+        text += line("J", kind, node, t) + "".join(conditions(t))
+        node = count + t - 1
+    return text + "".join(line("P", *pair) for pair in order)
+
+
+def same_key(t):
+    return [line("C", 0, 0, "=", t, 0)]
+
+
+def reports():
+    r = random.Random(1)
+    yield "first", open(os.path.join(TOP, "samples", "first.in")).read()
+    yield "week", open(os.path.join(TOP, "samples", "week.in")).read()
+    yield "one-table-256", table(1, keys(r, 256))
+    tables = "".join(table(1, keys(r, 256)) for _ in range(8))
+    yield "eight-tables-256", tables + chain(8, "L", same_key)
+    yield "eight-tables-inner", tables + chain(8, "I", same_key)
+    # a K line joins no pair, so each of five tables gets a blanking step, and best match follows
+    some = "".join(table(2, [[k, r.randrange(4)] for k in range(256)]) for _ in range(6))
+    yield "blanking-steps", some + chain(6, "L", lambda t: same_key(t) + [line("K", t, 1, ">=", 1)])
+    few = "".join(table(1, [[k] for k in range(2)]) for _ in range(8))
+    # tables that a tree joins to table 0, joined to each other first
+    yield "products", few + chain(8, "L", same_key, [(7, 6), (8, 5), (9, 4), (10, 3), (11, 2), (12, 1), (13, 0)])
+    yield "inequality", table(1, keys(r, 250)) + table(2, [[k, k + 1] for k in range(0, 250)]) + line("J", "L", 0, 1) \
+        + line("C", 0, 0, ">=", 1, 0) + line("C", 0, 0, "<", 1, 1)
+    wide = "".join(table(8, [[k, 1, 2, 3, 4, 5, 6, 7] for k in range(64)]) for _ in range(8))
+    yield "cells-4096", wide + chain(8, "L", same_key)
+    yield "refused-11", table(1, [[1]] * 256) + table(1, [[1]] * 2) + line("J", "I", 0, 1) + line("C", 0, 0, "=", 1, 0)
+
+
+def main():
+    if len(sys.argv) != 2:
+        sys.exit(__doc__)
+    folder = sys.argv[1]
+    os.makedirs(folder, exist_ok=True)
+    for number, (name, text) in enumerate(reports()):
+        assert len(text) <= 16384, (name, len(text))
+        path = os.path.join(folder, "%02d-%s" % (number, name))
+        query = translate.Query(text.encode("ascii"))
+        with open(path + ".in", "w") as out:
+            out.write(text)
+        with open(path + ".load.sql", "w") as out:
+            out.write(";\n".join(query.make_tables()) + ";\n")
+        with open(path + ".query.sql", "w") as out:
+            out.write(query.whole() + ";\n")
+
+
+if __name__ == "__main__":
+    main()
