@@ -1,0 +1,69 @@
+-- `capi::numbers::put_sets` meets its contract. The invariant: the sets before i are put. The measure is what is left of them.
+-- Assumes nothing.
+use mathlib.Core.Path.{_≡_, refl, ap}
+use Prim.Native.Nat.{_≤_, _-_, _*_}
+use native.Mathlib.Omega.{arith}
+use lib.ListN.{length, getD}
+use Rattle.print.specs.Output.{Written, written-as, written-none}
+use Rattle.print.specs.Loops.{upTo, written-turn}
+use Rattle.capi.specs.NumberLaws.{one, numbers-all}
+use borrow.Author.Needs.{needs}
+use Rattle.capi.proofs.numbers.put_sets.Statement.{statement}
+use Rattle.capi.proofs.numbers.put_sets.Tie as tie
+
+abbrev Inv-loop : tie.InvT-loop
+Inv-loop run₀ at sets next₀ i₀ run next i =
+    (i ≤ 8) × (length run ≡ length run₀) × Written run₀ at (upTo (λ k. one (getD sets k 0)) i) (1 * i) run next
+
+abbrev μ-loop : tie.MeasureT-loop
+μ-loop run₀ at sets next₀ i₀ run next i = 8 - i
+
+loop-holds : tie.Need-loop-holds Inv-loop μ-loop
+unfolding upTo
+loop-holds c = (omega arith, refl, written-none refl)
+
+mul-set : tie.Need-mul-set Inv-loop μ-loop
+mul-set c = search needs
+
+array-read-set : tie.Need-array-read-set Inv-loop μ-loop
+array-read-set c = search needs
+
+put-requires : tie.Need-put-requires Inv-loop μ-loop
+put-requires c κs = search needs
+
+add-i : tie.Need-add-i Inv-loop μ-loop
+add-i c = search needs
+
+loop-less : tie.Need-loop-less Inv-loop μ-loop
+loop-less c = search needs
+
+loop-again : tie.Need-loop-again Inv-loop μ-loop
+loop-again c =
+    let d = c .before .before in
+    let l = d .before .before .before in
+    (search needs, search needs, written-turn (λ k. one (getD (l .before .before .args .t3) k 0)) (l .loop .i) 1 (l .loop .inv .2) (d .put .ensures))
+
+same-length : tie.Need-same-length Inv-loop μ-loop
+same-length c = c .before .loop .inv .1
+
+returns : tie.Need-returns Inv-loop μ-loop
+returns c =
+    let l = c .before in
+    let a = l .before .before in
+    written-as (numbers-all _ _ (search needs)) (search needs) (l .loop .inv .2)
+
+pub put-sets-spec : {M : Type 1} → statement M
+put-sets-spec =
+    tie.close
+    (tie.spec
+    Inv-loop
+    μ-loop
+    loop-holds
+    mul-set
+    array-read-set
+    put-requires
+    add-i
+    loop-less
+    loop-again
+    same-length
+    returns)

@@ -1,0 +1,23 @@
+-- `capi::numbers::put_two` meets its contract: its numbers one behind the other. Assumes nothing.
+use Rattle.print.specs.Output.{written-then}
+use borrow.Author.Needs.{needs}
+use Rattle.capi.proofs.numbers.put_two.Statement.{statement}
+use Rattle.capi.proofs.numbers.put_two.Tie as tie
+
+put-requires : tie.Need-put-requires
+put-requires c κs = search needs
+
+put-requires-2 : tie.Need-put-requires-2
+put-requires-2 c κs = search needs
+
+same-length : tie.Need-same-length
+same-length c = search needs
+
+returns : tie.Need-returns
+returns c =
+    let s = c .before .before in
+    let f = s .before .before .before .before in
+    written-then (f .put .ensures) (s .put2 .ensures)
+
+pub put-two-spec : {M : Type 1} → statement M
+put-two-spec = tie.close (tie.spec put-requires put-requires-2 same-length returns)

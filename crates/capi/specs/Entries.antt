@@ -1,0 +1,72 @@
+-- The calls of the static library, for any arguments: what is returned, the numbers or bytes handed over, and all lent memory
+-- afterwards. Assumes nothing.
+use mathlib.Core.List.{List, [], _∷_}
+use Prim.Native.Nat.{ℕ}
+use lib.Dec.{ltb}
+use lib.ListN.{length, replicate}
+use Rattle.cells.specs.Choice.{if_then_else_}
+use Rattle.plan.specs.Steps.{zeroStep}
+use Rattle.text.specs.Bytes.{Bytes}
+use Rattle.engine.specs.Calls.{Lent, ReportCall, reportCall, DirectCall, directCall}
+use Rattle.engine.specs.Gave.{tablesIn}
+use Rattle.engine.specs.declared.answer.Answer.{Answer}
+use Rattle.engine.specs.declared.answer.Answer.the-variants.{Rows, Refused}
+use Rattle.program.specs.PrintedCalls.{PrintedCall, printReportCall, printDirectCall}
+use Rattle.capi.specs.Numbers.{statusOf, rowsOf, answerNumbers, atFront, bytesOf}
+
+-- ---- numbers
+
+-- returned where the run for the answer is too short
+abbrev pub noRoom : ℕ
+noRoom = 255
+
+-- what is returned, the run for the answer, and lent memory afterwards
+pub record Entry : Type 0 where
+  pub status : ℕ
+  pub answer : List ℕ
+  pub lent : Lent
+
+-- a call that has this answer, with these numbers, where the run has at least so many; otherwise nothing is changed
+unfoldable pub entry : ℕ → Answer → List ℕ → Lent → Lent → List ℕ → Entry
+entry least a numbers after before run =
+    if ltb (length run) least then record { status = noRoom; answer = run; lent = before }
+    else record { status = statusOf a; answer = atFront numbers run; lent = after }
+
+-- all numbers of a call of the report
+unfoldable pub reportNumbers : ReportCall → List ℕ
+reportNumbers c = answerNumbers (c .answer) (c .tables) (c .sets) (c .count) (c .steps)
+
+-- the report; its step list is handed over by value, so that question 1 does not turn it down
+unfoldable pub reportEntry : Bytes → Lent → List ℕ → Entry
+reportEntry text m run =
+    let c : ReportCall = reportCall text m (replicate 16 zeroStep) in
+    entry 92 (c .answer) (reportNumbers c) (c .lent) m run
+
+-- how many tables an answer's text has; a refusal has none
+unfoldable pub tablesOf : Bytes → Answer → ℕ
+tablesOf text (Rows n) = tablesIn text
+tablesOf text (Refused n) = 0
+
+-- the direct reading: its rows and tables
+unfoldable pub directEntry : Bytes → Lent → List ℕ → Entry
+directEntry text m run =
+    let c : DirectCall = directCall text m in
+    entry 2 (c .answer) (rowsOf (c .answer) ∷ tablesOf text (c .answer) ∷ []) (c .lent) m run
+
+-- ---- prints
+
+-- what is returned, the output, and lent memory afterwards
+pub record PrintEntry : Type 0 where
+  pub bytes : ℕ
+  pub output : List ℕ
+  pub lent : Lent
+
+-- a print's answer as a number
+unfoldable pub printEntry : PrintedCall → PrintEntry
+printEntry c = record { bytes = bytesOf (c .answer); output = c .output; lent = c .lent }
+
+unfoldable pub printReportEntry : Bytes → Lent → List ℕ → PrintEntry
+printReportEntry text m out = printEntry (printReportCall text m out)
+
+unfoldable pub printDirectEntry : Bytes → Lent → List ℕ → PrintEntry
+printDirectEntry text m out = printEntry (printDirectCall text m out)

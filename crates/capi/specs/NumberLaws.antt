@@ -1,0 +1,43 @@
+-- Laws of the numbers of an answer, as the code puts them. They serve the code. Assumes nothing.
+use mathlib.Core.Path.{_≡_, refl, sym, ap, _∙_}
+use mathlib.Core.List.{List, [], _∷_, _++_, flatMap}
+use Prim.Native.Nat.{ℕ, _+_, _*_, _≤_}
+use native.Mathlib.Omega.{arith}
+use lib.ListN.{length, take, drop, getD}
+use lib.Seq.{take-length}
+use Rattle.print.specs.Output.{Written, written-as, written-then, written-whole}
+use Rattle.print.specs.Loops.{upTo, upTo-flatMap}
+use Rattle.plan.specs.Steps.{zeroStep}
+use Rattle.plan.specs.declared.step.Step.{Step}
+use Rattle.engine.specs.declared.answer.Answer.{Answer}
+use Rattle.capi.specs.Numbers.{statusOf, rowsOf, stepNumbers, answerNumbers, atFront}
+
+-- each number by itself
+abbrev pub one : ℕ → List ℕ
+one n = n ∷ []
+
+ones : (l : List ℕ) → flatMap one l ≡ l
+unfolding flatMap
+ones [] = refl
+ones (x ∷ l) = ap (λ (z : List ℕ). x ∷ z) (ones l)
+
+-- a whole list put number by number
+pub numbers-all : (l : List ℕ) (n : ℕ) → n ≡ length l → upTo (λ i. one (getD l i 0)) n ≡ l
+numbers-all l n e = upTo-flatMap one l 0 n (omega arith) ∙ ap (λ (k : ℕ). flatMap one (take k l)) e ∙ ap (flatMap one) (take-length l) ∙ ones l
+
+-- all steps put step by step
+pub steps-all : (l : List Step) (n : ℕ) → n ≡ length l → upTo (λ i. stepNumbers (getD l i zeroStep)) n ≡ flatMap stepNumbers l
+steps-all l n e = upTo-flatMap stepNumbers l zeroStep n (omega arith) ∙ ap (λ (k : ℕ). flatMap stepNumbers (take k l)) e ∙ ap (flatMap stepNumbers) (take-length l)
+
+-- numbers written from the front on
+pub front-written : {w w′ b : List ℕ} {room r : ℕ} → room ≤ length w → Written w 0 b room w′ r → w′ ≡ atFront b w
+unfolding atFront
+front-written {w} {b = b} {r = r} h p =
+    let n : r ≡ length b = omega (arith, p .next) in
+    written-whole (omega (arith, p .next, p .within)) p ∙ ap (λ (k : ℕ). b ++ drop k w) n
+
+-- the parts of an answer, one behind the other
+pub answer-parts : (a : Answer) (tables count : ℕ) (sets : List ℕ) (steps : List Step) {rows status : ℕ} → rows ≡ rowsOf a → status ≡ statusOf a
+    → (rows ∷ tables ∷ count ∷ status ∷ []) ++ sets ++ flatMap stepNumbers steps ≡ answerNumbers a tables sets count steps
+unfolding answerNumbers
+answer-parts a tables count sets steps e f = rw (e, f)

@@ -1,0 +1,47 @@
+-- An answer as numbers: this project's own form for programs in other languages (include/rumbethola.h). Assumes nothing.
+use mathlib.Core.Path.{_≡_}
+use mathlib.Core.List.{List, [], _∷_, _++_, flatMap}
+use Prim.Native.Nat.{ℕ, _≤_}
+use lib.ListN.{length, drop}
+use Rattle.plan.specs.declared.step.Step.{Step}
+use Rattle.print.specs.Room.{printRoom}
+use Rattle.print.specs.declared.whole.Printed.{Printed}
+use Rattle.print.specs.declared.whole.Printed.the-variants.{Bytes as Wrote, NoRoom, Unfit}
+use Rattle.engine.specs.declared.answer.Answer.{Answer}
+use Rattle.engine.specs.declared.answer.Answer.the-variants.{Rows, Refused}
+
+-- the status of a call: 0 for an answer, or the number of the refusal
+unfoldable pub statusOf : Answer → ℕ
+statusOf (Rows n) = 0
+statusOf (Refused n) = n
+
+-- the count of an answer's rows; a refusal has none
+unfoldable pub rowsOf : Answer → ℕ
+rowsOf (Rows n) = n
+rowsOf (Refused n) = 0
+
+-- a step: kind, first node, second node, rows, conditions
+unfoldable pub stepNumbers : Step → List ℕ
+stepNumbers s = s .kind ∷ s .first ∷ s .second ∷ s .rows ∷ s .conditions ∷ []
+
+-- an answer of the report: rows, tables, count of steps, status, the sets, the steps
+unfoldable pub answerNumbers : Answer → ℕ → List ℕ → ℕ → List Step → List ℕ
+answerNumbers a tables words count steps = (rowsOf a ∷ tables ∷ count ∷ statusOf a ∷ []) ++ words ++ flatMap stepNumbers steps
+
+-- numbers at the front of a run; the rest of the run keeps its contents
+unfoldable pub atFront : List ℕ → List ℕ → List ℕ
+atFront numbers run = numbers ++ drop (length numbers) run
+
+-- returned where nothing is printed
+abbrev pub noPrint : ℕ
+noPrint = 4294967295
+
+-- the number of the bytes of a print
+unfoldable pub bytesOf : Printed → ℕ
+bytesOf (Wrote n) = n
+bytesOf NoRoom = noPrint
+bytesOf Unfit = noPrint
+
+-- a print that fits the least output; it serves the code only
+abbrev pub Short : Printed → Type 0
+Short p = (n : ℕ) → p ≡ Wrote n → n ≤ printRoom

@@ -1,0 +1,78 @@
+-- Every print fits the least output, so that the number of its bytes is below the number that says there is none. Assumes nothing.
+use mathlib.Core.Path.{_≡_, refl, sym, ap, _∙_, subst}
+use mathlib.Core.Bool.{Bool, true, false}
+use mathlib.Core.List.{List, [], _++_, flatMap}
+use Prim.Native.Nat.{ℕ, _≤_}
+use native.Mathlib.Omega.{arith}
+use lib.Dec.{ltb}
+use lib.ListN.{length, drop, replicate}
+use Rattle.cells.specs.Choice.{if_then_else_}
+use Rattle.cells.specs.Row.{Row}
+use Rattle.rows.specs.ListLaws.{_isIn_}
+use Rattle.plan.specs.Steps.{zeroStep}
+use Rattle.text.specs.Bytes.{Bytes}
+use Rattle.text.specs.Print.{printSets, printStep, printRow, printRefusal}
+use Rattle.print.specs.Room.{printRoom}
+use Rattle.print.specs.RoomLaws.{refusal-room, report-room}
+use Rattle.print.specs.Printed.{reportBytes}
+use Rattle.print.specs.declared.whole.Printed.{Printed}
+use Rattle.print.specs.declared.whole.Printed.the-variants.{Bytes as Wrote, NoRoom}
+use Rattle.engine.specs.Answers.{Outcome, refused, answered, ReportAnswer, reportOutcome, directOutcome}
+use Rattle.engine.specs.Bounds.{Bounded, report-bounded, direct-bounded}
+use Rattle.engine.specs.Calls.{Lent, question1Direct, reportCall, directCall}
+use Rattle.engine.specs.Programs.{printReport, printDirect, report, direct}
+use Rattle.program.specs.PrintedCalls.{PrintedCall, printCall, printed, printReportCall, printDirectCall}
+use Rattle.capi.specs.Numbers.{Short}
+
+refusal-short : (n : ℕ) → length (printRefusal n) ≤ printRoom
+refusal-short n = omega (arith, refusal-room n)
+
+-- what the programs print
+report-short : (text : Bytes) → length (report text) ≤ printRoom
+unfolding report printReport reportBytes
+report-short text = go (reportOutcome text) refl
+  where
+    go : (o : Outcome ReportAnswer) → reportOutcome text ≡ o → length (printReport o) ≤ printRoom
+    go (refused n) e = refusal-short n
+    go (answered a) e =
+        let (b, s) = report-bounded text a e in
+        report-room (a .sets) (a .steps) (a .rows) (b .eight) s (b .few) (λ row i. omega (arith, b .wide row i, b .eight))
+
+direct-short : (text : Bytes) → length (direct text) ≤ printRoom
+unfolding direct printDirect reportBytes printSets flatMap
+direct-short text = go (directOutcome text) refl
+  where
+    go : (o : Outcome (List Row)) → directOutcome text ≡ o → length (printDirect o) ≤ printRoom
+    go (refused n) e = refusal-short n
+    go (answered rows) e =
+        let b = direct-bounded text rows e in
+        report-room [] [] rows (omega arith) (omega arith) (b .few) (λ row i. omega (arith, b .wide row i, b .eight))
+
+-- a call's print
+printed-short : (m : Lent) (b : Bytes) → length b ≤ printRoom → length (printed m b) ≤ printRoom
+unfolding printed
+printed-short m b h = go (question1Direct m)
+  where
+    go : (q : Bool) → length (if q then b else printRefusal 1) ≤ printRoom
+    go true = h
+    go false = refusal-short 1
+
+call-short : (b : Bytes) (after before : Lent) (out : List ℕ) {a : Printed} {out′ : List ℕ} {lent : Lent} → length b ≤ printRoom
+    → record { answer = a; output = out′; lent = lent } ≡ printCall b after before out → Short a
+unfolding printCall
+call-short b after before out {a} {out′} {lent} h e n f = go (ltb (length out) printRoom) e
+  where
+    go : (q : Bool) → _≡_ {A = PrintedCall} (record { answer = a; output = out′; lent = lent })
+        (if q then record { answer = NoRoom; output = out; lent = before } else record { answer = Wrote (length b); output = b ++ drop (length b) out; lent = after })
+        → n ≤ printRoom
+    go true g = let z : _≡_ {A = ℕ} 0 1 = cc (ap (λ (x : PrintedCall). x .answer) g) in absurd (omega arith)
+    go false g = let z : length b ≡ n = cc (ap (λ (x : PrintedCall). x .answer) g) in omega arith
+
+module _ (text : Bytes) (m : Lent) (out : List ℕ) {a : Printed} {out′ : List ℕ} {lent : Lent} where
+  pub report-call-short : record { answer = a; output = out′; lent = lent } ≡ printReportCall text m out → Short a
+  unfolding printReportCall
+  report-call-short e = call-short (printed m (report text)) (reportCall text m (replicate 16 zeroStep) .lent) m out (printed-short m (report text) (report-short text)) e
+
+  pub direct-call-short : record { answer = a; output = out′; lent = lent } ≡ printDirectCall text m out → Short a
+  unfolding printDirectCall
+  direct-call-short e = call-short (printed m (direct text)) (directCall text m .lent) m out (printed-short m (direct text) (direct-short text)) e
