@@ -1,0 +1,191 @@
+//! Rumbethola for Rust: reports joined by inner and left outer joins in any joining order.
+//!
+//! The functions of [`lent`] are the routines of the library over memory that the caller lends. [`Engine`] owns that
+//! memory and gives answers as values:
+//!
+//! ```no_run
+//! let mut engine = rumbethola::Engine::new();
+//! match engine.report(&std::fs::read("samples/week.in").unwrap()) {
+//!     Ok(report) => report.rows().for_each(|row| println!("{row:?}")),
+//!     Err(refused) => println!("turned down by question {}", refused.question),
+//! }
+//! ```
+//!
+//! What is proved: the routines of libcapi.a end, are memory-safe for every slice, and return and leave in all lent
+//! memory what the definitions of `crates/capi/specs/Entries.antt` say. What is not proved: this wrapper, and the
+//! compiler's steps from the proved program to machine code. The wrapper has no condition for its callers: a Rust
+//! slice is valid, aligned and not null, and slices that are lent mutably do not overlap, which is all that the
+//! routines ask of a caller (`include/rumbethola.h`).
+
+use std::fmt;
+
+pub mod lent;
+
+/// The most tables of a report.
+pub const TABLES: usize = 8;
+/// The most steps of a plan.
+pub const STEPS: usize = 16;
+/// The row number of a table that is blank in a row.
+pub const BLANK: u16 = u16::MAX;
+
+/// What a step does.
+#[derive(Clone, Copy, Debug, PartialEq, Eq)]
+pub enum Kind {
+    Inner,
+    /// The first node is preserved.
+    Outer,
+    Product,
+    Blanking,
+    BestMatch,
+}
+
+/// One step of a plan. Fields that a kind lacks are 0.
+#[derive(Clone, Copy, Debug, PartialEq, Eq)]
+pub struct Step {
+    pub kind: Kind,
+    /// A node; of a blanking step its table.
+    pub first: u8,
+    pub second: u8,
+    /// The rows of a pair's result.
+    pub rows: u16,
+    /// Bit k is condition k.
+    pub conditions: u64,
+}
+
+/// The number of the question of document 01 that turned a text down, 1 to 11. It is never 1 for an [`Engine`], which
+/// lends all that question 1 asks for.
+#[derive(Clone, Copy, Debug, PartialEq, Eq)]
+pub struct Refused {
+    pub question: u8,
+}
+
+impl fmt::Display for Refused {
+    fn fmt(&self, to: &mut fmt::Formatter) -> fmt::Result {
+        write!(to, "the report was turned down by question {}", self.question)
+    }
+}
+
+impl std::error::Error for Refused {}
+
+/// The rows of an answer: a number for each table, [`BLANK`] where the table is blank in the row.
+#[derive(Clone, Copy, Debug, PartialEq, Eq)]
+pub struct Rows<'a> {
+    tables: usize,
+    numbers: &'a [u16],
+}
+
+impl<'a> Rows<'a> {
+    pub fn tables(&self) -> usize {
+        self.tables
+    }
+
+    /// The rows, in the order of the print.
+    pub fn rows(&self) -> impl ExactSizeIterator<Item = &'a [u16]> + use<'a> {
+        self.numbers.chunks_exact(self.tables)
+    }
+}
+
+/// The answer of a report.
+#[derive(Clone, Debug, PartialEq, Eq)]
+pub struct Report<'a> {
+    rows: Rows<'a>,
+    sets: Vec<u64>,
+    steps: Vec<Step>,
+}
+
+impl<'a> Report<'a> {
+    /// Each table's blanking set: bit k is condition k.
+    pub fn sets(&self) -> &[u64] {
+        &self.sets
+    }
+
+    /// The plan.
+    pub fn steps(&self) -> &[Step] {
+        &self.steps
+    }
+
+    pub fn tables(&self) -> usize {
+        self.rows.tables
+    }
+
+    /// The rows, in the order of the print.
+    pub fn rows(&self) -> impl ExactSizeIterator<Item = &'a [u16]> + use<'a> {
+        self.rows.rows()
+    }
+}
+
+/// The engine with memory of its own, for one call after the other.
+pub struct Engine {
+    cells: Vec<i32>,
+    work: Vec<u16>,
+    result: Vec<u16>,
+    out: Vec<u8>,
+}
+
+impl Default for Engine {
+    fn default() -> Engine {
+        Engine::new()
+    }
+}
+
+impl Engine {
+    pub fn new() -> Engine {
+        Engine {
+            cells: vec![0; lent::CELLS],
+            work: vec![0; lent::WORK],
+            result: vec![0; lent::RESULT],
+            out: vec![0; lent::OUT],
+        }
+    }
+
+    /// Plans the text's join tree in its joining order and runs the plan.
+    pub fn report(&mut self, text: &[u8]) -> Result<Report<'_>, Refused> {
+        let mut answer = [0; lent::ANSWER];
+        let status = lent::report(text, &mut self.cells, &mut self.work, &mut self.result, &mut answer);
+        let (rows, tables, count) = (answer[0] as usize, answer[1] as usize, answer[2] as usize);
+        let steps = answer[lent::AT_STEPS..].chunks_exact(lent::STEP_NUMBERS).take(count);
+        match status {
+            0 => Ok(Report {
+                rows: Rows { tables, numbers: &self.result[..rows * tables] },
+                sets: answer[lent::AT_SETS..][..tables].to_vec(),
+                steps: steps.map(step).collect(),
+            }),
+            question => Err(Refused { question }),
+        }
+    }
+
+    /// Reads the join tree directly, without plan and joining order.
+    pub fn direct(&mut self, text: &[u8]) -> Result<Rows<'_>, Refused> {
+        let mut answer = [0; lent::DIRECT_ANSWER];
+        let status = lent::direct(text, &mut self.cells, &mut self.work, &mut self.result, &mut answer);
+        let [rows, tables] = answer.map(|number| number as usize);
+        match status {
+            0 => Ok(Rows { tables, numbers: &self.result[..rows * tables] }),
+            question => Err(Refused { question }),
+        }
+    }
+
+    /// The whole print of the report, or of its refusal.
+    pub fn print_report(&mut self, text: &[u8]) -> &[u8] {
+        let bytes = lent::print_report(text, &mut self.cells, &mut self.work, &mut self.result, &mut self.out);
+        &self.out[..bytes as usize]
+    }
+
+    /// The print of the direct reading, or of its refusal.
+    pub fn print_direct(&mut self, text: &[u8]) -> &[u8] {
+        let bytes = lent::print_direct(text, &mut self.cells, &mut self.work, &mut self.result, &mut self.out);
+        &self.out[..bytes as usize]
+    }
+}
+
+fn step(numbers: &[u64]) -> Step {
+    let kind = match numbers[0] {
+        1 => Kind::Inner,
+        2 => Kind::Outer,
+        3 => Kind::Product,
+        4 => Kind::Blanking,
+        _ => Kind::BestMatch,
+    };
+    let [first, second] = [numbers[1], numbers[2]].map(|number| number as u8);
+    Step { kind, first, second, rows: numbers[3] as u16, conditions: numbers[4] }
+}
