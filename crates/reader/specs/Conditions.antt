@@ -25,7 +25,7 @@ use Rattle.reader.specs.State.{noJoins}
 use Rattle.reader.specs.Survey.{start}
 use Rattle.reader.specs.Kept.{conditions-kept}
 use Rattle.reader.specs.Query.{storedOf, done, after-joins, kept-conditions, sets-behind}
-use Rattle.reader.specs.declared.joins.Joins.{Joins}
+use Rattle.reader.specs.declared.join_lines.Joins.{Joins}
 
 -- cells that are the same everywhere make the same conditions true
 pub true-cells : (f g : Cells) → ((t row column : ℕ) → f t row column ≡ g t row column) → (k : Condition) (row : Row) → trueIn f k row ≡ trueIn g k row

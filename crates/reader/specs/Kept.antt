@@ -21,7 +21,7 @@ use Rattle.text.specs.Lines.{Line, tableLine, rowLine, joinLine, conditionLine,
 use Rattle.text.specs.Reading.{tablesOf, joinsOf, conditionsOf, pairsOf}
 use Rattle.reader.specs.State.{afterTable, afterRow, closedRows, openedTable, afterJoin, oneMore, afterCondition, afterPair}
 use Rattle.reader.specs.declared.tables.Tables.{Tables}
-use Rattle.reader.specs.declared.joins.Joins.{Joins}
+use Rattle.reader.specs.declared.join_lines.Joins.{Joins}
 use Rattle.reader.specs.declared.pairs.Pairs.{Pairs}
 
 -- ---- the lines' effect on each struct

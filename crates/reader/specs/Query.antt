@@ -25,7 +25,7 @@ use Rattle.reader.specs.Agrees.{afterLine, linesAfter}
 use Rattle.reader.specs.Kept.{tablesAfter, joinsAfter, pairsAfter, storePair, storedJoins, stored-joins, more, pairs-count, pairs-kept, conditions-count, conditions-kept, joins-count, joins-kept, tables-count, columns-kept, rows-kept}
 use Rattle.reader.specs.Counts.{even-kept, fits-kept, cells-kept, offsets-kept, offsetsFrom}
 use Rattle.reader.specs.declared.tables.Tables.{Tables}
-use Rattle.reader.specs.declared.joins.Joins.{Joins}
+use Rattle.reader.specs.declared.join_lines.Joins.{Joins}
 use Rattle.reader.specs.declared.pairs.Pairs.{Pairs}
 use Rattle.reader.specs.declared.survey.Reading.{Reading}
 

@@ -21,7 +21,7 @@ use Rattle.reader.specs.State.{noJoins}
 use Rattle.reader.specs.Survey.{start}
 use Rattle.reader.specs.Kept.{storedJoins, stored-joins, more, joins-kept}
 use Rattle.reader.specs.Query.{storedOf, done, stored-joined, stored-numbered, after-joins, kept-joins}
-use Rattle.reader.specs.declared.joins.Joins.{Joins}
+use Rattle.reader.specs.declared.join_lines.Joins.{Joins}
 
 -- the conditions of a join are among the text's
 before-join : (i : ℕ) (ls : List Line) → i + (storedJoins i ls) .0 ≤ i + length (conditionsOf ls)

@@ -14,7 +14,7 @@ use Rattle.rows.specs.declared.kind.Kind.the-variants.{Inner}
 use Rattle.plan.specs.declared.query.StoredJoin.{StoredJoin}
 use Rattle.plan.specs.declared.query.StoredPair.{StoredPair}
 use Rattle.reader.specs.declared.tables.Tables.{Tables}
-use Rattle.reader.specs.declared.joins.Joins.{Joins}
+use Rattle.reader.specs.declared.join_lines.Joins.{Joins}
 use Rattle.reader.specs.declared.pairs.Pairs.{Pairs}
 
 -- ---- T and D lines

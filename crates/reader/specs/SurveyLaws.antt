@@ -21,7 +21,7 @@ use Rattle.text.specs.declared.line.LineRead.the-variants as R
 use Rattle.reader.specs.State.{noTables, noJoins, noJoin, noPairs, afterTable, afterRow, afterJoin, oneMore, afterCondition, afterPair}
 use Rattle.reader.specs.Survey.{start, stepIn, onTable, onRow, onJoin, onCondition, onOrder, afterRead, onward, readLines, readFrom, surveyOf, Bounded}
 use Rattle.reader.specs.declared.tables.Tables.{Tables}
-use Rattle.reader.specs.declared.joins.Joins.{Joins}
+use Rattle.reader.specs.declared.join_lines.Joins.{Joins}
 use Rattle.reader.specs.declared.pairs.Pairs.{Pairs}
 use Rattle.reader.specs.declared.survey.Reading.{Reading}
 use Rattle.reader.specs.declared.survey.Stepped.{Stepped}

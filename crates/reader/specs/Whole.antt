@@ -15,7 +15,7 @@ use Rattle.reader.specs.State.{noJoins}
 use Rattle.reader.specs.Survey.{start}
 use Rattle.reader.specs.Kept.{storedJoins, stored-joins, more, joins-kept, conditions-kept}
 use Rattle.reader.specs.Query.{storedOf, done, stored-tables, stored-joined, stored-numbered, stored-paired, after-joins, kept-columns, kept-pairs, back-pairs, sets-kept}
-use Rattle.reader.specs.declared.joins.Joins.{Joins}
+use Rattle.reader.specs.declared.join_lines.Joins.{Joins}
 
 map-take : {A B : Type 0} (f : A → B) (n : ℕ) (l : List A) → map f (take n l) ≡ take n (map f l)
 map-take f zero l = refl

@@ -1,5 +1,5 @@
 // Reading a report text: questions 2 to 7 and 9, the query, and the cells.
-pub mod joins;
+pub mod join_lines;
 pub mod pairs;
 pub mod read;
 pub mod stored;

@@ -1,5 +1,5 @@
 // The query that the lines of a text say, and questions 3 and 4.
-use crate::joins;
+use crate::join_lines;
 use crate::survey::Reading;
 use crate::tables;
 use crate::tables::Tables;
@@ -21,7 +21,7 @@ pub fn stored(s: Reading) -> StoredQuery
     let layout = tables::closed_rows(open, t.count, t.rows);
     let before = j.joins;
     let latest = j.latest;
-    let joins = joins::closed_joins(before, j.count, latest);
+    let joins = join_lines::closed_joins(before, j.count, latest);
     let conditions = j.conditions;
     let pairs = p.pairs;
     StoredQuery {

@@ -1,6 +1,6 @@
 // One pass over the lines of a text: question 2, and what questions 3 to 9 are asked about.
-use crate::joins;
-use crate::joins::Joins;
+use crate::join_lines;
+use crate::join_lines::Joins;
 use crate::pairs;
 use crate::pairs::Pairs;
 use crate::tables;
@@ -43,7 +43,7 @@ pub fn start() -> Reading
     ensures { λ r. ⌜ r ≡ start ⌝ }
 {
     let t = tables::no_tables();
-    let j = joins::no_joins();
+    let j = join_lines::no_joins();
     let p = pairs::no_pairs();
     Reading {
         part: 0,
@@ -118,7 +118,7 @@ pub fn on_join(s: Reading, kind: Kind, left: u16, right: u16) -> Stepped
     }
     let before = s.joins;
     let t = s.tables;
-    let j = joins::after_join(before, kind, left, right);
+    let j = join_lines::after_join(before, kind, left, right);
     let p = s.pairs;
     Stepped {
         accepted: true,
@@ -144,7 +144,7 @@ pub fn on_condition(s: Reading, c: Condition) -> Stepped
     }
     let before = s.joins;
     let t = s.tables;
-    let j = joins::after_condition(before, c);
+    let j = join_lines::after_condition(before, c);
     let p = s.pairs;
     Stepped {
         accepted: true,

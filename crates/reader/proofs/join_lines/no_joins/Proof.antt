@@ -1,8 +1,8 @@
--- `reader::joins::no_joins` meets its contract. Assumes nothing.
+-- `reader::join_lines::no_joins` meets its contract. Assumes nothing.
 use mathlib.Core.Path.{_≡_, refl, ap, sym, _∙_}
 use Rattle.reader.specs.State.{noJoins, noJoin}
-use Rattle.reader.proofs.joins.no_joins.Statement.{statement}
-use Rattle.reader.proofs.joins.no_joins.Tie as tie
+use Rattle.reader.proofs.join_lines.no_joins.Statement.{statement}
+use Rattle.reader.proofs.join_lines.no_joins.Tie as tie
 
 returns : tie.Need-returns
 unfolding noJoins noJoin

@@ -1,9 +1,9 @@
--- `reader::joins::after_join` meets its contract. Assumes nothing.
+-- `reader::join_lines::after_join` meets its contract. Assumes nothing.
 use mathlib.Core.Path.{_≡_, refl, ap, sym, _∙_}
 use Rattle.reader.specs.State.{afterJoin}
 use borrow.Author.Needs.{needs}
-use Rattle.reader.proofs.joins.after_join.Statement.{statement}
-use Rattle.reader.proofs.joins.after_join.Tie as tie
+use Rattle.reader.proofs.join_lines.after_join.Statement.{statement}
+use Rattle.reader.proofs.join_lines.after_join.Tie as tie
 
 closed-joins-requires : tie.Need-closed-joins-requires
 closed-joins-requires c κs = search needs

@@ -1,10 +1,10 @@
--- `reader::joins::with_condition` meets its contract: a condition past the room is not kept. Assumes nothing.
+-- `reader::join_lines::with_condition` meets its contract: a condition past the room is not kept. Assumes nothing.
 use mathlib.Core.Path.{_≡_, refl, ap, sym, _∙_}
 use lib.ListN.{length}
 use Rattle.reader.specs.Steps.{set-past}
 use borrow.Author.Needs.{needs}
-use Rattle.reader.proofs.joins.with_condition.Statement.{statement}
-use Rattle.reader.proofs.joins.with_condition.Tie as tie
+use Rattle.reader.proofs.join_lines.with_condition.Statement.{statement}
+use Rattle.reader.proofs.join_lines.with_condition.Tie as tie
 
 returns : tie.Need-returns
 returns c =

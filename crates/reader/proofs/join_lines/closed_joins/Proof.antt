@@ -1,10 +1,10 @@
--- `reader::joins::closed_joins` meets its contract: a join past the room is not kept. Assumes nothing.
+-- `reader::join_lines::closed_joins` meets its contract: a join past the room is not kept. Assumes nothing.
 use mathlib.Core.Path.{_≡_, refl, ap, sym, _∙_}
 use lib.ListN.{length}
 use Rattle.reader.specs.Steps.{set-past}
 use borrow.Author.Needs.{needs}
-use Rattle.reader.proofs.joins.closed_joins.Statement.{statement}
-use Rattle.reader.proofs.joins.closed_joins.Tie as tie
+use Rattle.reader.proofs.join_lines.closed_joins.Statement.{statement}
+use Rattle.reader.proofs.join_lines.closed_joins.Tie as tie
 
 last-of-requires : tie.Need-last-of-requires
 last-of-requires c κs = search needs

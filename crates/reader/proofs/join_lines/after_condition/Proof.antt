@@ -1,9 +1,9 @@
--- `reader::joins::after_condition` meets its contract. Assumes nothing.
+-- `reader::join_lines::after_condition` meets its contract. Assumes nothing.
 use mathlib.Core.Path.{_≡_, refl, ap, sym, _∙_}
 use Rattle.reader.specs.State.{afterCondition, oneMore}
 use borrow.Author.Needs.{needs}
-use Rattle.reader.proofs.joins.after_condition.Statement.{statement}
-use Rattle.reader.proofs.joins.after_condition.Tie as tie
+use Rattle.reader.proofs.join_lines.after_condition.Statement.{statement}
+use Rattle.reader.proofs.join_lines.after_condition.Tie as tie
 
 with-condition-requires : tie.Need-with-condition-requires
 with-condition-requires c κs = search needs
