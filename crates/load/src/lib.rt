@@ -1,2 +1,2 @@
 // The cells of a report text, laid into the lent run.
-pub mod run;
+pub mod cell_run;

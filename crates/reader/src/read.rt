@@ -1,7 +1,7 @@
 // A report text read: questions 2, 3 and 4, the query, and the cells in the lent run. Questions 5 to 7 and 9 are put to the query.
 use crate::stored;
 use crate::survey;
-use load::run;
+use load::cell_run;
 use plan::query::StoredQuery;
 ghost use mathlib.Core.Path.{_≡_};
 ghost use Rattle.reader.specs.Outcome.{answerIn, readOutcome, runAfter};
@@ -44,7 +44,7 @@ pub fn read(text: &[u8], cells: &mut [i32]) -> Answer
             query: query,
         };
     }
-    run::put_cells(text, cells);
+    cell_run::put_cells(text, cells);
     Answer {
         outcome: Outcome::Accepted,
         query: query,

@@ -1,4 +1,4 @@
--- `load::run::put_cells` meets its contract: the cells of what is left, put behind those before them, are the text's cells. Assumes nothing.
+-- `load::cell_run::put_cells` meets its contract: the cells of what is left, put behind those before them, are the text's cells. Assumes nothing.
 use mathlib.Core.Path.{_≡_, refl, ap, sym, _∙_}
 use native.Mathlib.Omega.{arith}
 use Prim.Native.Nat.{_+_, _≤_, _-_}
@@ -6,8 +6,8 @@ use borrow.Author.Needs.{needs}
 use lib.ListN.{length, take, drop}
 use Rattle.text.specs.Bytes.{lineFeed}
 use Rattle.load.specs.Cells.{textCells, linesCells, lineParts, laid, behind, cells-here, cells-past, cells-all, laid-stop, laid-run, part-short}
-use Rattle.load.proofs.run.put_cells.Statement.{statement}
-use Rattle.load.proofs.run.put_cells.Tie as tie
+use Rattle.load.proofs.cell_run.put_cells.Statement.{statement}
+use Rattle.load.proofs.cell_run.put_cells.Tie as tie
 
 abbrev Inv-loop : tie.InvT-loop
 Inv-loop text run₀ out₀ at₀ run out at =

@@ -1,10 +1,10 @@
--- `load::run::put_line` meets its contract: a line that is no D line writes nothing. Assumes nothing.
+-- `load::cell_run::put_line` meets its contract: a line that is no D line writes nothing. Assumes nothing.
 use mathlib.Core.Path.{_≡_, refl, ap, sym, _∙_}
 use native.Mathlib.Omega.{arith}
 use Rattle.load.specs.Cells.{laid, behind, laid-none, behind-none, line-empty, line-other, line-row}
 use borrow.Author.Needs.{needs}
-use Rattle.load.proofs.run.put_line.Statement.{statement}
-use Rattle.load.proofs.run.put_line.Tie as tie
+use Rattle.load.proofs.cell_run.put_line.Statement.{statement}
+use Rattle.load.proofs.cell_run.put_line.Tie as tie
 
 returns : tie.Need-returns
 returns c = let e = line-empty _ (c .if1 .taken) in (laid-none _ _ _ e, behind-none _ _ e, omega arith)

@@ -1,9 +1,9 @@
--- `load::run::put` meets its contract: nothing is kept past the run's end. Assumes nothing.
+-- `load::cell_run::put` meets its contract: nothing is kept past the run's end. Assumes nothing.
 use mathlib.Core.Path.{_≡_, refl, ap, sym, _∙_}
 use lib.Seq.{set-out}
 use borrow.Author.Needs.{needs}
-use Rattle.load.proofs.run.put.Statement.{statement}
-use Rattle.load.proofs.run.put.Tie as tie
+use Rattle.load.proofs.cell_run.put.Statement.{statement}
+use Rattle.load.proofs.cell_run.put.Tie as tie
 
 returns : tie.Need-returns
 returns c = sym (set-out _ _ _ (c .if1 .taken))

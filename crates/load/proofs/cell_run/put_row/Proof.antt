@@ -1,4 +1,4 @@
--- `load::run::put_row` meets its contract: the cells from here on, put behind those before them, are the fields' cells. Assumes nothing.
+-- `load::cell_run::put_row` meets its contract: the cells from here on, put behind those before them, are the fields' cells. Assumes nothing.
 use mathlib.Core.Path.{_≡_, refl, ap, sym, _∙_}
 use native.Mathlib.Omega.{arith}
 use Prim.Native.Nat.{_+_, _≤_, _-_}
@@ -10,8 +10,8 @@ use Rattle.text.specs.Numbers.{ifMade}
 use Rattle.text.specs.Parts.{fieldsFrom}
 use Rattle.text.specs.Ranges.{cell-fits}
 use Rattle.load.specs.Cells.{goodCells, good-past, good-more, good-bad, laid, behind, laid-stop, laid-turn, behind-stop, behind-turn}
-use Rattle.load.proofs.run.put_row.Statement.{statement}
-use Rattle.load.proofs.run.put_row.Tie as tie
+use Rattle.load.proofs.cell_run.put_row.Statement.{statement}
+use Rattle.load.proofs.cell_run.put_row.Tie as tie
 
 abbrev Inv-loop : tie.InvT-loop
 Inv-loop l at run₀ out o₀ i₀ run o i =
