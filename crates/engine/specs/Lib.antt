@@ -19,6 +19,8 @@ pub mod DirectLaws
 pub mod DirectCode
 pub mod Planning
 pub mod PlanningLaws
+pub mod Preparing
+pub mod PreparingLaws
 pub mod ReportLaws
-pub mod ReportCode
 pub mod Bounds
+pub mod ReportCode

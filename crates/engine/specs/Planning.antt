@@ -33,19 +33,15 @@ unfoldable pub withCounts : StepList → List ℕ → ℕ → StepList
 withCounts s counts zero = s
 withCounts s counts (suc k) = withRows (withCounts s counts k) k (getD counts k 0)
 
--- how many blanking steps a plan of so many steps has
-unfoldable pub blanksIn : ℕ → ℕ → ℕ
-blanksIn count tables = count - tables
-
--- what is handed over after the run of a plan: its answer and the counts of its pairs
-unfoldable pub handedOver : StoredQuery → List ℕ → List ℕ → Joined → Planned
-handedOver q sets counts (J.Rows k) = record {
+-- what is handed over after the run of a plan, s: its answer and the counts of its pairs
+unfoldable pub handedOver : StoredQuery → List ℕ → StepList → List ℕ → Joined → Planned
+handedOver q sets s counts (J.Rows k) = record {
   answer = Rows k;
   tables = q .«table_count»;
   sets = sets;
-  plan = withCounts (listed (stepsOf (queryIn q) (replicate (length (joinOrder (queryIn q))) 0))) counts (q .«table_count» - 1);
+  plan = withCounts s counts (q .«table_count» - 1);
 }
-handedOver q sets counts J.TooMany = turnedDown 11
+handedOver q sets s counts J.TooMany = turnedDown 11
 
 module _ (D : Database ℕ) (q : StoredQuery) where
   -- the plan run
@@ -54,7 +50,7 @@ module _ (D : Database ℕ) (q : StoredQuery) where
     pub joined : Joined
     pub long : length counts ≡ 8
     pub ran : PlanRan D (planTrees (queryIn q)) (q .«table_count») (q .«table_count» - 1) (blankings (queryIn q)) counts w w′ joined
-    pub handed : r ≡ handedOver q sets counts joined
+    pub handed : r ≡ handedOver q sets (listed (stepsOf (queryIn q) (replicate (length (joinOrder (queryIn q))) 0))) counts joined
 
   -- questions 9, 10 and 11
   pub record QueryRun (w w′ : List ℕ) (r : Planned) : Type 0 where

@@ -91,7 +91,8 @@ handedBy q n counts (J.Rows k) = record {
 handedBy q n counts J.TooMany = turnedDown 11
 
 handed-by : (s : StoredQuery) (counts : List ℕ) (j : Joined)
-    → handedOver s (setWords (blankingSets (queryIn s))) counts j ≡ handedBy (queryIn s) (s .«table_count») counts j
+    → handedOver s (setWords (blankingSets (queryIn s))) (listed (stepsOf (queryIn s) (replicate (length (joinOrder (queryIn s))) 0))) counts j
+    ≡ handedBy (queryIn s) (s .«table_count») counts j
 unfolding handedOver
 handed-by s counts (J.Rows k) = refl
 handed-by s counts J.TooMany = refl

@@ -3,4 +3,5 @@ pub mod answer;
 pub mod clear;
 pub mod direct;
 pub mod planned;
+pub mod prepare;
 pub mod report;

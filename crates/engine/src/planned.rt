@@ -1,27 +1,16 @@
-// The plan of a query, its run, and what is handed over: document 01, "The plan".
+// What a run hands over: document 01, "The plan".
 use crate::answer::Answer;
 use cells::condition::TABLES;
 use joins::join::Joined;
-use plan::query::StoredQuery;
 use plan::step::Step;
 use plan::steps::STEPS;
 use plan::steps::StepList;
-use run::pairs::PairsRun;
+use ready::prepared::Prepared;
+use runner::state::Run;
 ghost use mathlib.Core.Path.{_≡_};
 ghost use Prim.Native.Nat.{_≤_};
-ghost use lib.Dec.{T};
-ghost use lib.ListN.{length, replicate};
-ghost use Rattle.plan.specs.Report.{joinOrder};
-ghost use Rattle.plan.specs.Sets.{blankingSets};
-ghost use Rattle.plan.specs.Steps.{stepsOf};
-ghost use Rattle.plan.specs.Questions.{question5, question9};
-ghost use Rattle.plan.specs.Stored.{queryIn};
-ghost use Rattle.plan.specs.Counted.{Counted};
-ghost use Rattle.plan.specs.Words.{setWords};
-ghost use Rattle.plan.specs.StepWords.{listed};
-ghost use Rattle.joins.specs.Work.{workspace};
-ghost use Rattle.run.specs.Reading.{Readable};
-ghost use Rattle.engine.specs.Planning.{turnedDown, withCounts, blanksIn, StepsRun, QueryRun, QueryAsked};
+ghost use Rattle.engine.specs.Planning.{turnedDown, withCounts};
+ghost use Rattle.engine.specs.Preparing.{Within, Ends, Concludes, replied};
 
 // What a call of the engine hands over: its answer, the count of tables, each table's set, and the plan.
 pub struct Planned {
@@ -29,6 +18,14 @@ pub struct Planned {
     pub tables: usize,
     pub sets: [u64; TABLES],
     pub plan: StepList,
+}
+
+// The same where the plan is in a lent list of steps: how many steps it has.
+pub struct Reply {
+    pub answer: Answer,
+    pub tables: usize,
+    pub sets: [u64; TABLES],
+    pub count: usize,
 }
 
 // After a refusal there is no set and no step.
@@ -67,51 +64,24 @@ pub fn with_counts(list: StepList, counts: [u16; 8], pairs: usize) -> StepList
     s
 }
 
-// How many blanking steps a plan of so many steps has, for so many tables: best match follows where there is one.
-pub fn blanks_in(count: usize, tables: usize) -> usize
-    ensures { λ r. ⌜ r ≡ blanksIn count tables ⌝ }
+// What a run hands over: the refusal where a question turned the text down or a pair has too many rows; or the rows in the result,
+// how many they are, and the plan with its counts.
+pub fn hand_over(work: &[u16], result: &mut [u16], p: Prepared, r: Run) -> Planned
+    requires { ⌜ Within p ⌝ }
+    ensures { λ x. ⌜ Ends p r (now (work .entry)) (now (result .entry)) (now (result .exit)) x ⌝ }
 {
-    if count < tables {
-        return 0;
+    let start = p.run;
+    if start.refused {
+        return turned_down(p.number);
     }
-    count - tables
-}
-
-// Question 11: the plan run.
-pub fn run_steps(
-    q: StoredQuery,
-    sets: [u64; TABLES],
-    list: StepList,
-    cells: &[i32],
-    work: &mut [u16],
-    result: &mut [u16],
-) -> Planned
-    requires { ⌜ Readable q × (1 ≤ q .«table_count») × T (question5 (queryIn q)) × T (question9 (queryIn q))
-        × (list ≡ listed (stepsOf (queryIn q) (replicate (length (joinOrder (queryIn q))) 0))) × (16384 ≤ length (now work)) × (2048 ≤ length (now result)) ⌝ }
-    ensures { λ r. ⌜ StepsRun (workspace (now (cells .entry)) (q .layout) (q .conditions)) q sets (now (result .entry)) (now (result .exit)) r ⌝ }
-{
+    let q = p.query;
+    let sets = p.sets;
+    let list = p.plan;
     let tables = q.table_count as usize;
     let pairs = tables - 1;
-    let blanks = blanks_in(list.count, tables);
-    let layout = q.layout;
-    let conditions = q.conditions;
-    let count = q.condition_count as usize;
-    let steps = list.steps;
-    let r = run::plan_run::run_plan(
-        cells,
-        layout,
-        conditions,
-        count,
-        tables,
-        steps,
-        pairs,
-        blanks,
-        work,
-        result,
-    );
     let counts = r.counts;
-    let answer = r.answer;
-    match answer {
+    let found = runner::last::finish_run(work, q, r, result);
+    match found {
         Joined::Rows(n) => Planned {
             answer: Answer::Rows(n),
             tables,
@@ -122,29 +92,42 @@ pub fn run_steps(
     }
 }
 
-// Questions 9 to 11 of a query that passed those before.
-pub fn run_query(q: StoredQuery, cells: &[i32], work: &mut [u16], result: &mut [u16]) -> Planned
-    requires { ⌜ Counted q × Readable q × (1 ≤ q .«table_count») × T (question5 (queryIn q)) × (16384 ≤ length (now work)) × (2048 ≤ length (now result)) ⌝ }
-    ensures { λ r. ⌜ QueryRun (workspace (now (cells .entry)) (q .layout) (q .conditions)) q (now (result .entry)) (now (result .exit)) r ⌝ }
+// The end of a call: what the run hands over; then the work buffer and the cell run are filled with 0.
+pub fn conclude(
+    cells: &mut [i32],
+    work: &mut [u16],
+    result: &mut [u16],
+    p: Prepared,
+    r: Run,
+) -> Planned
+    requires { ⌜ Within p ⌝ }
+    ensures { λ x. ⌜ Concludes p r (now (cells .entry)) (now (cells .exit)) (now (work .entry)) (now (work .exit))
+        (now (result .entry)) (now (result .exit)) x ⌝ }
 {
-    if !questions::built::order_built(q) {
-        return turned_down(9);
-    }
-    let sets = plan::blanking::blanking_sets(q);
-    if !plan::pairs::all_fit(q, sets) {
-        return turned_down(10);
-    }
-    let list = plan::steps::steps_of(q, sets);
-    run_steps(q, sets, list, cells, work, result)
+    let h = hand_over(work, result, p, r);
+    crate::clear::clear_work(work);
+    crate::clear::clear_cells(cells);
+    h
 }
 
-// Questions 8 to 11 of a query that passed those before.
-pub fn ask_query(q: StoredQuery, cells: &[i32], work: &mut [u16], result: &mut [u16]) -> Planned
-    requires { ⌜ Counted q × Readable q × (1 ≤ q .«table_count») × T (question5 (queryIn q)) × (16384 ≤ length (now work)) × (2048 ≤ length (now result)) ⌝ }
-    ensures { λ r. ⌜ QueryAsked (workspace (now (cells .entry)) (q .layout) (q .conditions)) q (now (result .entry)) (now (result .exit)) r ⌝ }
+// The plan that is handed over.
+pub fn list_of(h: Planned) -> StepList
+    ensures { λ r. ⌜ r ≡ h .plan ⌝ }
 {
-    if !plan::simplified::is_simplified(q) {
-        return turned_down(8);
+    h.plan
+}
+
+// What is answered where the plan is in a lent list of steps.
+pub fn reply_of(h: Planned) -> Reply
+    ensures { λ r. ⌜ r ≡ replied h ⌝ }
+{
+    let answer = h.answer;
+    let sets = h.sets;
+    let list = h.plan;
+    Reply {
+        answer,
+        tables: h.tables,
+        sets,
+        count: list.count,
     }
-    run_query(q, cells, work, result)
 }

@@ -1,25 +1,99 @@
-// The report of a text: document 01, "The plan", handed over by value.
+// The report of a text: document 01, "The plan". The plan is handed over in a lent list of steps, or by value.
+use crate::answer::Answer;
+use crate::planned;
 use crate::planned::Planned;
-use reader::read::Outcome;
+use crate::planned::Reply;
+use crate::prepare;
+use cells::condition::TABLES;
+use plan::step::Step;
+use plan::steps::STEPS;
+use plan::steps::StepList;
+use ready::prepared;
 ghost use mathlib.Core.Path.{_≡_};
-ghost use Prim.Native.Nat.{_≤_};
-ghost use lib.ListN.{length, replicate};
+ghost use mathlib.Core.Bool.{not};
+ghost use lib.ListN.{replicate};
 ghost use Rattle.plan.specs.Steps.{zeroStep};
-ghost use Rattle.engine.specs.Answers.{reportOutcome};
 ghost use Rattle.engine.specs.Calls.{reportCall};
-ghost use Rattle.engine.specs.Planning.{Reported};
+ghost use Rattle.engine.specs.Preparing.{enoughLent, refusedReply, byValue};
 
-// Questions 2 to 11 of a text, and what is handed over. The cell run and the work buffer are left as they come.
-pub fn run_text(text: &[u8], cells: &mut [i32], work: &mut [u16], result: &mut [u16]) -> Planned
-    requires { ⌜ (4096 ≤ length (now cells)) × (16384 ≤ length (now work)) × (2048 ≤ length (now result)) ⌝ }
-    ensures { λ r. ⌜ Reported (reportOutcome (now (text .entry))) (now (result .entry)) (now (result .exit)) r ⌝ }
+// Question 1, by the lengths of what is lent: whether it is too little.
+pub fn too_little(cells: usize, work: usize, result: usize, steps: usize) -> bool
+    ensures { λ r. ⌜ r ≡ not (enoughLent cells work result steps) ⌝ }
 {
-    let a = accept::accept::accept(text, cells);
-    let outcome = a.outcome;
-    let q = a.query;
-    match outcome {
-        Outcome::Refused(n) => crate::planned::turned_down(n),
-        Outcome::Accepted => crate::planned::ask_query(q, cells, work, result),
+    if work < 16384 {
+        return true;
+    }
+    if result < 2048 {
+        return true;
+    }
+    if cells < 4096 {
+        return true;
+    }
+    steps < STEPS
+}
+
+// A refusal.
+pub fn refused(number: u8) -> Reply
+    ensures { λ r. ⌜ r ≡ refusedReply number ⌝ }
+{
+    Reply {
+        answer: Answer::Refused(number),
+        tables: 0,
+        sets: [0u64; TABLES],
+        count: 0,
+    }
+}
+
+// The report: what is answered, all lent memory and the lent list of steps are those of `reportCall`, whatever is lent. The plan is
+// laid into the list and run from it; at the end the list has the plan with its counts, or zero steps only.
+pub fn report_into(
+    text: &[u8],
+    cells: &mut [i32],
+    work: &mut [u16],
+    result: &mut [u16],
+    steps: &mut [Step],
+) -> Reply
+    ensures { λ r. ⌜ record {
+      answer = r .answer;
+      tables = r .tables;
+      sets = r .sets;
+      count = r .count;
+      lent = record { cells = now (cells .exit); work = now (work .exit); result = now (result .exit) };
+      steps = now (steps .exit);
+    }
+        ≡ reportCall (now (text .entry)) (record { cells = now (cells .entry); work = now (work .entry); result = now (result .entry) })
+        (now (steps .entry)) ⌝ }
+{
+    if too_little(cells.len(), work.len(), result.len(), steps.len()) {
+        return refused(1);
+    }
+    let p = prepare::prepare(text, cells);
+    let list = prepared::plan_of(p);
+    let query = prepared::query_of(p);
+    let start = prepared::start_of(p);
+    runner::list::put_plan(steps, list);
+    let r = runner::over::run_over(steps, cells, work, query, start);
+    let h = planned::conclude(cells, work, result, p, r);
+    let last = planned::list_of(h);
+    runner::list::put_plan(steps, last);
+    planned::reply_of(h)
+}
+
+// What is handed over by value, with these steps.
+pub fn by_value(r: Reply, steps: [Step; STEPS]) -> Planned
+    ensures { λ x. ⌜ x ≡ byValue r steps ⌝ }
+{
+    let answer = r.answer;
+    let sets = r.sets;
+    let plan = StepList {
+        steps,
+        count: r.count,
+    };
+    Planned {
+        answer,
+        tables: r.tables,
+        sets,
+        plan,
     }
 }
 
@@ -37,17 +111,14 @@ pub fn report(text: &[u8], cells: &mut [i32], work: &mut [u16], result: &mut [u1
         ≡ reportCall (now (text .entry)) (record { cells = now (cells .entry); work = now (work .entry); result = now (result .entry) })
         (replicate 16 zeroStep) ⌝ }
 {
-    if work.len() < 16384 {
-        return crate::planned::turned_down(1);
-    }
-    if result.len() < 2048 {
-        return crate::planned::turned_down(1);
-    }
-    if cells.len() < 4096 {
-        return crate::planned::turned_down(1);
-    }
-    let r = run_text(text, cells, work, result);
-    crate::clear::clear_work(work);
-    crate::clear::clear_cells(cells);
-    r
+    let zero = Step {
+        kind: 0,
+        first: 0,
+        second: 0,
+        rows: 0,
+        conditions: 0,
+    };
+    let mut steps = [zero; STEPS];
+    let r = report_into(text, cells, work, result, &mut steps);
+    by_value(r, steps)
 }

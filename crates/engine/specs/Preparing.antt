@@ -1,0 +1,66 @@
+-- What the code makes ready before a run and hands over after it. Serves the code only: no demand cites it. Assumes nothing.
+use mathlib.Core.Path.{_≡_}
+use mathlib.Core.Bool.{Bool, true, false, _&&_}
+use mathlib.Core.List.{List}
+use Prim.Native.Nat.{ℕ, _≤_}
+use lib.Dec.{leb}
+use lib.IntN.{ℤ, pos}
+use lib.ListN.{length, replicate}
+use Rattle.plan.specs.declared.step.Step.{Step}
+use Rattle.text.specs.Bytes.{Bytes}
+use Rattle.reader.specs.declared.read.Answer as Read
+use Rattle.reader.specs.declared.read.Outcome.the-variants as O
+use Rattle.accept.specs.Accept.{Accepts}
+use Rattle.joins.specs.declared.join.Joined.{Joined}
+use Rattle.runner.specs.State.{Ended}
+use Rattle.runner.specs.declared.state.Run.{Run}
+use Rattle.ready.specs.Ready.{turnedAway, QueryPlanned}
+use Rattle.ready.specs.declared.prepared.Prepared.{Prepared}
+use Rattle.engine.specs.Calls.{noSets}
+use Rattle.engine.specs.Planning.{turnedDown, handedOver}
+use Rattle.engine.specs.declared.answer.Answer.the-variants.{Refused}
+use Rattle.engine.specs.declared.planned.Planned.{Planned}
+use Rattle.engine.specs.declared.planned.Reply.{Reply}
+
+-- ---- question 1
+
+-- by the lengths of the cell run, the work buffer, the result buffer and the step list
+unfoldable pub enoughLent : ℕ → ℕ → ℕ → ℕ → Bool
+enoughLent cells work result steps = (leb 16384 work && leb 2048 result && leb 4096 cells) && leb 16 steps
+
+-- a refusal, as it is answered beside a lent list
+unfoldable pub refusedReply : ℕ → Reply
+refusedReply n = record { answer = Refused n; tables = 0; sets = noSets; count = 0 }
+
+-- ---- before a run
+
+-- questions 2 to 10 of a text, with the cell run before and after
+pub data Prepares (bs : Bytes) (before after : List ℤ) (x : Prepared) : Type 0 where
+  away : {a : Read.Answer} {n : ℕ} → Accepts bs before after a → a .outcome ≡ O.Refused n → x ≡ turnedAway (a .query) n → Prepares bs before after x
+  passed : {a : Read.Answer} → Accepts bs before after a → a .outcome ≡ O.Accepted → QueryPlanned (a .query) x → Prepares bs before after x
+
+-- ---- after a run
+
+-- the count of tables, where there is a run
+abbrev pub Within : Prepared → Type 0
+Within p = p .run .refused ≡ false → (1 ≤ p .query .«table_count») × (p .query .«table_count» ≤ 8)
+
+-- what is handed over for what was made ready, p, and the state at the end, r; w is the work buffer, v and v′ the result before and after
+pub record Ends (p : Prepared) (r : Run) (w v v′ : List ℕ) (x : Planned) : Type 0 where
+  pub refused : p .run .refused ≡ true → (x ≡ turnedDown (p .number)) × (v′ ≡ v)
+  pub rows : p .run .refused ≡ false → (length (r .counts) ≡ 8)
+      × ((a : Joined) × Ended (p .query) r w v v′ a × (x ≡ handedOver (p .query) (p .sets) (p .plan) (r .counts) a))
+
+-- what is handed over, as it is answered beside a lent list
+unfoldable pub replied : Planned → Reply
+replied x = record { answer = x .answer; tables = x .tables; sets = x .sets; count = x .plan .count }
+
+-- and by value
+unfoldable pub byValue : Reply → List Step → Planned
+byValue r steps = record { answer = r .answer; tables = r .tables; sets = r .sets; plan = record { steps = steps; count = r .count } }
+
+-- the end of a call: c, w and v are the cell run, the work buffer and the result, before and after
+pub record Concludes (p : Prepared) (r : Run) (c c′ : List ℤ) (w w′ v v′ : List ℕ) (x : Planned) : Type 0 where
+  pub ends : Ends p r w v v′ x
+  pub cells : c′ ≡ replicate (length c) (pos 0)
+  pub work : w′ ≡ replicate (length w) 0

@@ -1,0 +1,2 @@
+// A query made ready for its run.
+pub mod prepared;
