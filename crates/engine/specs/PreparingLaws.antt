@@ -1,13 +1,13 @@
 -- Laws of what is made ready before a run and handed over after it: by the tests that the code makes, and up to questions 8 to 11.
 -- Assumes nothing.
-use mathlib.Core.Path.{_≡_, refl, sym, ap, ap₂, _∙_, subst}
+use mathlib.Core.Path.{_≡_, refl, sym, ap, _∙_, subst}
 use mathlib.Core.Logic.{by-cases}
-use mathlib.Core.Bool.{Bool, true, false, not, _&&_}
+use mathlib.Core.Bool.{true, false, not}
 use mathlib.Core.List.{List}
 use Prim.Native.Nat.{ℕ, _-_, _≤_, _<_}
 use native.Mathlib.Decide.{decLt}
 use native.Mathlib.Omega.{arith}
-use lib.Dec.{T, leb, ltb}
+use lib.Dec.{T, ltb}
 use lib.IntN.{ℤ}
 use lib.ListN.{length, take, replicate}
 use borrow.Author.Tests.{lt-ltb, le-ltb, le-leb, lt-leb}
@@ -15,7 +15,7 @@ use Rattle.plan.specs.Report.{joinOrder}
 use Rattle.plan.specs.Sets.{blankingSets}
 use Rattle.plan.specs.Plan.{blankings}
 use Rattle.plan.specs.Steps.{stepsOf}
-use Rattle.plan.specs.Questions.{question5, question8, question9, question10}
+use Rattle.plan.specs.Questions.{question5, question9}
 use Rattle.plan.specs.Stored.{queryIn}
 use Rattle.plan.specs.StepWords.{listed}
 use Rattle.plan.specs.Words.{setWords}

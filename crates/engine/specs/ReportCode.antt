@@ -2,7 +2,7 @@
 use mathlib.Core.Path.{_≡_, refl, sym, ap, _∙_, subst}
 use mathlib.Core.Logic.{⊎-elim}
 use mathlib.Core.Bool.{Bool, true, false, _&&_}
-use mathlib.Core.List.{List, [], _∷_, _++_}
+use mathlib.Core.List.{List, []}
 use Prim.Native.Nat.{ℕ, _-_, _≤_}
 use native.Mathlib.Omega.{arith}
 use lib.Dec.{T, leb}
@@ -22,7 +22,7 @@ use Rattle.text.specs.Reading.{reportOf}
 use Rattle.reader.specs.declared.read.Answer as Read
 use Rattle.reader.specs.declared.read.Outcome.the-variants as O
 use Rattle.joins.specs.Work.{workspace}
-use Rattle.accept.specs.Accept.{numberIn, Accepts, Passed}
+use Rattle.accept.specs.Accept.{numberIn, Accepts}
 use Rattle.runner.specs.Laid.{laid}
 use Rattle.runner.specs.LaidLaws.{laid-out}
 use Rattle.runner.specs.Over.{Runs}
@@ -40,7 +40,7 @@ use Rattle.engine.specs.Planning.{turnedDown, QueryAsked, plannedFor, re
 use Rattle.engine.specs.Preparing.{enoughLent, refusedReply, Prepares, away, passed, Within, Ends, replied, byValue, Concludes}
 use Rattle.engine.specs.PreparingLaws.{query-asked}
 use Rattle.engine.specs.ReportLaws.{report-early, report-asked}
-use Rattle.engine.specs.declared.answer.Answer.the-variants.{Rows, Refused}
+use Rattle.engine.specs.declared.answer.Answer.the-variants.{Refused}
 use Rattle.engine.specs.declared.planned.Planned.{Planned}
 use Rattle.engine.specs.declared.planned.Reply.{Reply}
 

@@ -2,7 +2,7 @@
 -- Else the text and the cells go to `prepare`, the steps to `put_plan`, the three to `run_over` with the work buffer, each lent again for the call (the cells are shown to `run_over`), and come back (`Lending.antt`); then cells, work buffer and result go to `conclude` and the steps to `put_plan` for good.
 -- All that the proof knows of the callees is that each meets its contract; that the contract follows from theirs is `report-short` and `report-done` of `ReportCode.antt`.
 -- Assumes nothing.
-use mathlib.Core.Path.{_≡_, refl, sym, _∙_, ap, subst}
+use mathlib.Core.Path.{_≡_, refl, _∙_, ap, subst}
 use Prim.Native.Nat.{ℕ}
 use mathlib.Core.Bool.{Bool, true, false, not}
 use mathlib.Core.List.{List, [], _∷_}
@@ -57,7 +57,7 @@ use Rattle.runner.specs.Over.{Runs}
 use Rattle.runner.specs.declared.state.Run.{Run}
 use Rattle.runner.proofs.state.Run as R
 use Rattle.runner.proofs.state.Run.Laws as R′
-use Rattle.runner.proofs.While.{guards, holds, fails}
+use Rattle.runner.proofs.While.{guards, fails}
 use Rattle.runner.proofs.list.put_plan as put
 use Rattle.runner.proofs.list.put_plan.Symbol as put-def
 use Rattle.runner.proofs.list.put_plan.Met as put-thm
