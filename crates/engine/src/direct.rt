@@ -15,7 +15,7 @@ ghost use Rattle.engine.specs.Calls.{directCall};
 ghost use Rattle.engine.specs.Gave.{Gave, Wide, TreeRead};
 
 // Questions 8 and 11 of a query, and its rows.
-pub fn read_tree(q: StoredQuery, cells: &[i32], work: &mut [u16], result: &mut [u16]) -> Answer
+fn read_tree(q: StoredQuery, cells: &[i32], work: &mut [u16], result: &mut [u16]) -> Answer
     requires { ⌜ Counted q × Readable q × (1 ≤ q .«table_count») × (16384 ≤ length (now work)) × (2048 ≤ length (now result)) ⌝ }
     ensures { λ r. ⌜ TreeRead (workspace (now (cells .entry)) (q .layout) (q .conditions)) q (now (result .entry)) (now (result .exit)) r ⌝ }
 {
@@ -36,7 +36,7 @@ pub struct Found {
 }
 
 // Questions 2 to 8 and 11 of a text, and its rows. The cell run and the work buffer are left as they come.
-pub fn read_text(text: &[u8], cells: &mut [i32], work: &mut [u16], result: &mut [u16]) -> Found
+fn read_text(text: &[u8], cells: &mut [i32], work: &mut [u16], result: &mut [u16]) -> Found
     requires { ⌜ (4096 ≤ length (now cells)) × (16384 ≤ length (now work)) × (2048 ≤ length (now result)) ⌝ }
     ensures { λ r. ⌜ Gave (directOutcome (now (text .entry))) (now (result .entry)) (now (result .exit)) (r .answer) × Wide (now (text .entry)) (r .answer) (r .tables) ⌝ }
 {

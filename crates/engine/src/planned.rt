@@ -50,7 +50,7 @@ pub fn turned_down(number: u8) -> Planned
 }
 
 // The plan with the count of rows of each of its pairs.
-pub fn with_counts(list: StepList, counts: [u16; 8], pairs: usize) -> StepList
+fn with_counts(list: StepList, counts: [u16; 8], pairs: usize) -> StepList
     requires { ⌜ pairs ≤ 8 ⌝ }
     ensures { λ r. ⌜ r ≡ withCounts list counts pairs ⌝ }
 {
@@ -66,7 +66,7 @@ pub fn with_counts(list: StepList, counts: [u16; 8], pairs: usize) -> StepList
 
 // What a run hands over: the refusal where a question turned the text down or a pair has too many rows; or the rows in the result,
 // how many they are, and the plan with its counts.
-pub fn hand_over(work: &[u16], result: &mut [u16], p: Prepared, r: Run) -> Planned
+fn hand_over(work: &[u16], result: &mut [u16], p: Prepared, r: Run) -> Planned
     requires { ⌜ Within p ⌝ }
     ensures { λ x. ⌜ Ends p r (now (work .entry)) (now (result .entry)) (now (result .exit)) x ⌝ }
 {
@@ -93,7 +93,7 @@ pub fn hand_over(work: &[u16], result: &mut [u16], p: Prepared, r: Run) -> Plann
 }
 
 // The end of a call: what the run hands over; then the work buffer and the cell run are filled with 0.
-pub fn conclude(
+pub(crate) fn conclude(
     cells: &mut [i32],
     work: &mut [u16],
     result: &mut [u16],
