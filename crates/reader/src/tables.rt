@@ -150,16 +150,9 @@ pub fn after_row(s: Tables, n: usize) -> Tables
     requires { ⌜ s .rows < 65535 ⌝ }
     ensures { λ r. ⌜ r ≡ afterRow s n ⌝ }
 {
-    let even = is_even(s.even, n, s.columns);
-    let cells = cells_after(s.cells, n);
-    let layout = s.layout;
-    Tables {
-        count: s.count,
-        layout: layout,
-        columns: s.columns,
-        rows: s.rows + 1,
-        cells: cells,
-        fits: s.fits,
-        even: even,
-    }
+    let mut next = s;
+    next.even = is_even(s.even, n, s.columns);
+    next.cells = cells_after(s.cells, n);
+    next.rows = s.rows + 1;
+    next
 }

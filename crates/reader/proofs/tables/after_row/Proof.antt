@@ -11,12 +11,12 @@ is-even-requires c κs = search needs
 cells-after-requires : tie.Need-cells-after-requires
 cells-after-requires c κs = search needs
 
-add-t6 : tie.Need-add-t6
-add-t6 c = search needs
+add-next : tie.Need-add-next
+add-next c = search needs
 
 returns : tie.Need-returns
 unfolding afterRow
-returns c = rw (c .before .before .cells-after .ensures, c .before .before .before .is-even .ensures)
+returns c = rw (c .before .cells-after .ensures, c .before .before .is-even .ensures)
 
 pub after-row-spec : {M : Type 1} → statement M
-after-row-spec = tie.close (tie.spec is-even-requires cells-after-requires add-t6 returns)
+after-row-spec = tie.close (tie.spec is-even-requires cells-after-requires add-next returns)
