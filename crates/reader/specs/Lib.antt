@@ -11,4 +11,5 @@ pub mod Looked
 pub mod Cells
 pub mod Conditions
 pub mod Ranges
+pub mod RowLines
 pub mod Whole

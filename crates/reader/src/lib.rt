@@ -2,6 +2,7 @@
 pub mod join_lines;
 pub mod pairs;
 pub mod read;
+mod row_lines;
 pub mod stored;
 pub mod survey;
 pub mod tables;

@@ -3,6 +3,7 @@ use crate::join_lines;
 use crate::join_lines::Joins;
 use crate::pairs;
 use crate::pairs::Pairs;
+use crate::row_lines;
 use crate::tables;
 use crate::tables::Tables;
 use cells::condition::Condition;
@@ -11,8 +12,10 @@ use text::line;
 use text::line::LineRead;
 use text::part;
 ghost use mathlib.Core.Path.{_≡_};
-ghost use Prim.Native.Nat.{_<_};
+ghost use Prim.Native.Nat.{_<_, _≤_};
+ghost use lib.ListN.{length};
 ghost use Rattle.reader.specs.Survey.{start, stepIn, onTable, onRow, onJoin, onCondition, onOrder, afterRead, Bounded, surveyOf};
+ghost use Rattle.reader.specs.RowLines.{ReadsTo};
 
 // The part of the text that the latest line belongs to: 0 at the start, 1 tables, 2 joins, 3 order.
 pub struct Reading {
@@ -25,6 +28,12 @@ pub struct Reading {
 // The reading with a line more, or refused: then the reading says nothing.
 pub struct Stepped {
     pub accepted: bool,
+    pub reading: Reading,
+}
+
+// A place in the text, and the reading of the lines before it.
+pub struct ReadTo {
+    pub at: usize,
     pub reading: Reading,
 }
 
@@ -195,6 +204,30 @@ pub fn after_line(s: Reading, x: LineRead) -> Stepped
     }
 }
 
+// A run of D lines more, where there is one at place `at` of the tables part.
+fn with_rows(text: &[u8], at: usize, s: Reading) -> ReadTo
+    requires { ⌜ (at ≤ length (now text)) × (length (now text) ≤ 16384) × Bounded at s ⌝ }
+    ensures { λ r. ⌜ ReadsTo (now (text .entry)) at s (r .at) (r .reading) ⌝ }
+{
+    if s.part != TABLES {
+        return ReadTo { at: at, reading: s };
+    }
+    let before = s.tables;
+    let rows = row_lines::read_rows(text, at, before);
+    let t = rows.tables;
+    let j = s.joins;
+    let p = s.pairs;
+    ReadTo {
+        at: rows.at,
+        reading: Reading {
+            part: TABLES,
+            tables: t,
+            joins: j,
+            pairs: p,
+        },
+    }
+}
+
 // The whole text, or refused by question 2.
 pub fn survey(text: &[u8]) -> Stepped
     ensures { λ r. ⌜ stepIn r ≡ surveyOf (now (text .entry)) ⌝ }
@@ -218,8 +251,9 @@ pub fn survey(text: &[u8]) -> Stepped
         let x = line::read_line(&text[at..to]);
         let next = after_line(s, x);
         if next.accepted {
-            s = next.reading;
-            at = to + 1;
+            let read = with_rows(text, to + 1, next.reading);
+            s = read.reading;
+            at = read.at;
         } else {
             return next;
         }

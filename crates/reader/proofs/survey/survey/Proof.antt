@@ -56,8 +56,19 @@ after-line-requires c κs =
     let a = c .before .before .before .before .before .loop .inv .0 in
     (omega arith, omega arith, omega arith, omega arith, omega arith, omega arith)
 
-add-at : tie.Need-add-at Inv-loop μ-loop
-add-at c = search needs
+add-with-rows : tie.Need-add-with-rows Inv-loop μ-loop
+add-with-rows c = search needs
+
+with-rows-requires : tie.Need-with-rows-requires Inv-loop μ-loop
+with-rows-requires c κs =
+    let q = c .before in
+    let i = q .before .before .before in
+    let d = i .before .before .before in (
+      omega arith,
+      d .loop .inv .1,
+      bounded-next _ _ (d .loop .s) _ (q .before .read-line .result) (d .loop .inv .2) (omega arith)
+          (step-accepted _ (c .if3 .taken) ∙ q .after-line .ensures),
+    )
 
 loop-less : tie.Need-loop-less Inv-loop μ-loop
 loop-less c = search needs
@@ -65,15 +76,17 @@ loop-less c = search needs
 loop-again : tie.Need-loop-again Inv-loop μ-loop
 unfolding lineFeed
 loop-again c =
-    let q = c .before .before in
+    let w = c .before in
+    let q = w .before .before in
     let i = q .before .before .before in
     let p = i .before in
     let d = p .before .before in
-    let e = step-accepted _ (c .before .if3 .taken) ∙ q .after-line .ensures in (
-      omega arith,
+    let r = w .with-rows .ensures in
+    let e = step-accepted _ (w .before .if3 .taken) ∙ q .after-line .ensures in (
+      r .1,
       d .loop .inv .1,
-      bounded-next _ _ (d .loop .s) _ (q .before .read-line .result) (d .loop .inv .2) (omega arith) e,
-      d .loop .inv .3 ∙ from-step _ _ _ _ (p .part-end .ensures .0) (i .if2 .left) (e ∙ ap (afterRead _) (q .before .read-line .ensures)),
+      r .2,
+      d .loop .inv .3 ∙ from-step _ _ _ _ (p .part-end .ensures .0) (i .if2 .left) (e ∙ ap (afterRead _) (q .before .read-line .ensures)) ∙ r .3,
     )
 
 returns-3 : tie.Need-returns-3 Inv-loop μ-loop
@@ -106,7 +119,8 @@ survey-spec =
     part-read-line-end
     read-line-requires
     after-line-requires
-    add-at
+    add-with-rows
+    with-rows-requires
     loop-less
     loop-again
     returns-3

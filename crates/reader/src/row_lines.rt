@@ -1,0 +1,37 @@
+// A run of D lines in the tables part of a text, read with the tables alone: the other parts of a reading are large to copy at each line.
+use crate::tables;
+use crate::tables::Tables;
+use text::line;
+use text::line::LineRead;
+use text::part;
+ghost use Prim.Native.Nat.{_≤_};
+ghost use lib.ListN.{length};
+ghost use Rattle.reader.specs.RowLines.{RowsTo};
+
+// The place after a run of D lines, and the tables with its rows.
+pub struct RowsRead {
+    pub at: usize,
+    pub tables: Tables,
+}
+
+// The D lines from place `from` on, up to the first line that has another form or is not closed.
+pub(crate) fn read_rows(text: &[u8], from: usize, before: Tables) -> RowsRead
+    requires { ⌜ (from ≤ length (now text)) × (length (now text) ≤ 16384) × (before .rows ≤ from) ⌝ }
+    ensures { λ r. ⌜ RowsTo (now (text .entry)) from before (r .at) (r .tables) ⌝ }
+{
+    let mut t = before;
+    let mut at = from;
+    while at < text.len() {
+        let to = part::part_end(text, at, part::LINE_FEED);
+        if text.len() <= to {
+            return RowsRead { at: at, tables: t };
+        }
+        let x = line::read_line(&text[at..to]);
+        let LineRead::Row(n) = x else {
+            return RowsRead { at: at, tables: t };
+        };
+        t = tables::after_row(t, n);
+        at = to + 1;
+    }
+    RowsRead { at: at, tables: t }
+}
