@@ -11,7 +11,7 @@ ghost use Prim.Native.Nat.{_≤_};
 ghost use Rattle.accept.specs.Accept.{numberIn, storedRefusal, Accepts};
 
 // Questions 5, 6 and 7.
-pub fn ask(q: StoredQuery) -> Outcome
+fn ask(q: StoredQuery) -> Outcome
     requires { ⌜ q .«table_count» ≤ 8 ⌝ }
     ensures { λ r. ⌜ numberIn r ≡ storedRefusal q ⌝ }
 {

@@ -40,14 +40,7 @@ pub fn put(run: &mut [u64], at: usize, n: u64) -> usize
 }
 
 // The counts of rows, tables and steps, and the status.
-pub fn put_counts(
-    run: &mut [u64],
-    at: usize,
-    rows: u64,
-    tables: u64,
-    count: u64,
-    status: u64,
-) -> usize
+fn put_counts(run: &mut [u64], at: usize, rows: u64, tables: u64, count: u64, status: u64) -> usize
     requires { ⌜ at + 4 ≤ length (now run) ⌝ }
     ensures { λ r. ⌜ Written (now (run .entry)) at (rows ∷ tables ∷ count ∷ status ∷ []) 4 (now (run .exit)) r ⌝ }
 {
@@ -58,7 +51,7 @@ pub fn put_counts(
 }
 
 // The sets of the tables.
-pub fn put_sets(run: &mut [u64], at: usize, sets: [u64; TABLES]) -> usize
+fn put_sets(run: &mut [u64], at: usize, sets: [u64; TABLES]) -> usize
     requires { ⌜ at + 8 ≤ length (now run) ⌝ }
     ensures { λ r. ⌜ Written (now (run .entry)) at sets 8 (now (run .exit)) r ⌝ }
 {
@@ -73,7 +66,7 @@ pub fn put_sets(run: &mut [u64], at: usize, sets: [u64; TABLES]) -> usize
 }
 
 // One step.
-pub fn put_step(run: &mut [u64], at: usize, s: Step) -> usize
+fn put_step(run: &mut [u64], at: usize, s: Step) -> usize
     requires { ⌜ at + 5 ≤ length (now run) ⌝ }
     ensures { λ r. ⌜ Written (now (run .entry)) at (stepNumbers s) 5 (now (run .exit)) r ⌝ }
 {
@@ -85,7 +78,7 @@ pub fn put_step(run: &mut [u64], at: usize, s: Step) -> usize
 }
 
 // The steps, one behind the other.
-pub fn put_steps(run: &mut [u64], at: usize, steps: [Step; STEPS]) -> usize
+fn put_steps(run: &mut [u64], at: usize, steps: [Step; STEPS]) -> usize
     requires { ⌜ at + 80 ≤ length (now run) ⌝ }
     ensures { λ r. ⌜ Written (now (run .entry)) at (flatMap stepNumbers steps) 80 (now (run .exit)) r ⌝ }
 {
@@ -100,7 +93,7 @@ pub fn put_steps(run: &mut [u64], at: usize, steps: [Step; STEPS]) -> usize
 }
 
 // All numbers of an answer of the report, at the front.
-pub fn put_answer(
+pub(crate) fn put_answer(
     run: &mut [u64],
     a: Answer,
     tables: usize,
@@ -119,7 +112,7 @@ pub fn put_answer(
 }
 
 // The numbers of an answer of the direct reading, at the front.
-pub fn put_two(run: &mut [u64], rows: u64, tables: u64) -> usize
+pub(crate) fn put_two(run: &mut [u64], rows: u64, tables: u64) -> usize
     requires { ⌜ 2 ≤ length (now run) ⌝ }
     ensures { λ r. ⌜ Written (now (run .entry)) 0 (rows ∷ tables ∷ []) 2 (now (run .exit)) r ⌝ }
 {

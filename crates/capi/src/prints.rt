@@ -8,7 +8,7 @@ ghost use Rattle.capi.specs.Entries.{printReportEntry, printDirectEntry}
 pub const NO_PRINT: u32 = 4294967295;
 
 // The number of the bytes of a print, or NO_PRINT.
-pub fn bytes_of(p: Printed) -> u32
+fn bytes_of(p: Printed) -> u32
     requires { ⌜ Short p ⌝ }
     ensures { λ r. ⌜ r ≡ bytesOf p ⌝ }
 {

@@ -22,7 +22,7 @@ pub fn put(run: &mut [i32], i: usize, z: i32)
 }
 
 // The cells of a line's fields from `at` on, from place `out` of the run on; the place behind them.
-pub fn put_row(l: &[u8], at: usize, run: &mut [i32], out: usize) -> usize
+fn put_row(l: &[u8], at: usize, run: &mut [i32], out: usize) -> usize
     requires { ⌜ (at ≤ length (now l) + 1) × (out + length (now l) ≤ 4294967296) ⌝ }
     ensures { λ r. ⌜ (now (run .exit) ≡ laid (now (run .entry)) out (goodCells (fieldsFrom (now (l .entry)) at))) × (r ≡ behind out (goodCells (fieldsFrom (now (l .entry)) at)))
         × (r ≤ out + length (now (l .entry)) + 1) ⌝ }
@@ -43,7 +43,7 @@ pub fn put_row(l: &[u8], at: usize, run: &mut [i32], out: usize) -> usize
 }
 
 // The cells of a line, if it is a D line.
-pub fn put_line(l: &[u8], run: &mut [i32], out: usize) -> usize
+fn put_line(l: &[u8], run: &mut [i32], out: usize) -> usize
     requires { ⌜ out + length (now l) ≤ 4294967296 ⌝ }
     ensures { λ r. ⌜ (now (run .exit) ≡ laid (now (run .entry)) out (lineCells (now (l .entry)))) × (r ≡ behind out (lineCells (now (l .entry))))
         × (r ≤ out + length (now (l .entry)) + 1) ⌝ }

@@ -36,7 +36,7 @@ fn write_digits(out: &mut [u8], at: usize, most: usize, n: u16) -> usize
 }
 
 // A number.
-pub fn write_number(out: &mut [u8], at: usize, n: u16) -> usize
+pub(crate) fn write_number(out: &mut [u8], at: usize, n: u16) -> usize
     requires { ⌜ at + fieldRoom ≤ length (now out) ⌝ }
     ensures { λ r. ⌜ Written (now (out .entry)) at (numberField n) fieldRoom (now (out .exit)) r ⌝ }
 {
@@ -45,7 +45,7 @@ pub fn write_number(out: &mut [u8], at: usize, n: u16) -> usize
 }
 
 // An entry of a row: a row number or blank.
-pub fn write_entry(out: &mut [u8], at: usize, x: u16) -> usize
+pub(crate) fn write_entry(out: &mut [u8], at: usize, x: u16) -> usize
     requires { ⌜ at + fieldRoom ≤ length (now out) ⌝ }
     ensures { λ r. ⌜ Written (now (out .entry)) at (entryField x) fieldRoom (now (out .exit)) r ⌝ }
 {
@@ -68,7 +68,7 @@ fn write_bit(out: &mut [u8], at: usize, bits: u64, k: u16) -> usize
 }
 
 // The numbers of the bits that are set.
-pub fn write_bits(out: &mut [u8], at: usize, bits: u64) -> usize
+pub(crate) fn write_bits(out: &mut [u8], at: usize, bits: u64) -> usize
     requires { ⌜ at + bitsRoom ≤ length (now out) ⌝ }
     ensures { λ r. ⌜ Written (now (out .entry)) at (flatMap numberField (bitNumbers bits)) bitsRoom (now (out .exit)) r ⌝ }
 {

@@ -22,7 +22,13 @@ fn write_end(out: &mut [u8], at: usize, number: u16, conditions: u64) -> usize
 }
 
 // A line of a table and a set of conditions: S, and B of a blanking step.
-pub fn write_table(out: &mut [u8], at: usize, letter: u8, table: u16, conditions: u64) -> usize
+pub(crate) fn write_table(
+    out: &mut [u8],
+    at: usize,
+    letter: u8,
+    table: u16,
+    conditions: u64,
+) -> usize
     requires { ⌜ at + tableRoom ≤ length (now out) ⌝ }
     ensures { λ r. ⌜ Written (now (out .entry)) at (letter ∷ printFields (map printNumber (table ∷ bitNumbers conditions))) tableRoom (now (out .exit)) r ⌝ }
 {
@@ -72,7 +78,7 @@ const PAIR: u8 = 3;
 const BLANKING: u8 = 4;
 
 // A step's line.
-pub fn write_step(out: &mut [u8], at: usize, s: Step) -> usize
+pub(crate) fn write_step(out: &mut [u8], at: usize, s: Step) -> usize
     requires { ⌜ at + stepRoom ≤ length (now out) ⌝ }
     ensures { λ r. ⌜ Written (now (out .entry)) at (printStep s) stepRoom (now (out .exit)) r ⌝ }
 {
@@ -101,7 +107,7 @@ fn write_entries(out: &mut [u8], at: usize, rows: &[u16], from: usize, n: usize)
 }
 
 // The line of the row of n entries that stands at `from`.
-pub fn write_row(out: &mut [u8], at: usize, rows: &[u16], from: usize, n: usize) -> usize
+pub(crate) fn write_row(out: &mut [u8], at: usize, rows: &[u16], from: usize, n: usize) -> usize
     requires { ⌜ (from + n ≤ length (now rows)) × (n ≤ 8) × (at + rowRoom ≤ length (now out)) ⌝ }
     ensures { λ r. ⌜ Written (now (out .entry)) at (printRow (take n (drop from (now (rows .entry))))) rowRoom (now (out .exit)) r ⌝ }
 {
@@ -111,7 +117,7 @@ pub fn write_row(out: &mut [u8], at: usize, rows: &[u16], from: usize, n: usize)
 }
 
 // The line of a refusal.
-pub fn write_refusal(out: &mut [u8], at: usize, number: u8) -> usize
+pub(crate) fn write_refusal(out: &mut [u8], at: usize, number: u8) -> usize
     requires { ⌜ at + refusalRoom ≤ length (now out) ⌝ }
     ensures { λ r. ⌜ Written (now (out .entry)) at (printRefusal number) refusalRoom (now (out .exit)) r ⌝ }
 {

@@ -14,7 +14,7 @@ ghost use Rattle.print.specs.Rows.{rowsIn};
 pub const STEPS: usize = 16;
 
 // The S lines of the first n tables.
-pub fn write_sets(out: &mut [u8], at: usize, sets: [u64; TABLES], n: usize) -> usize
+pub(crate) fn write_sets(out: &mut [u8], at: usize, sets: [u64; TABLES], n: usize) -> usize
     requires { ⌜ (n ≤ 8) × (at + tableRoom * n ≤ length (now out)) ⌝ }
     ensures { λ r. ⌜ Written (now (out .entry)) at (printSets 0 (take n sets)) (tableRoom * n) (now (out .exit)) r ⌝ }
 {
@@ -28,7 +28,7 @@ pub fn write_sets(out: &mut [u8], at: usize, sets: [u64; TABLES], n: usize) -> u
 }
 
 // The lines of the first n steps.
-pub fn write_steps(out: &mut [u8], at: usize, steps: [Step; STEPS], n: usize) -> usize
+pub(crate) fn write_steps(out: &mut [u8], at: usize, steps: [Step; STEPS], n: usize) -> usize
     requires { ⌜ (n ≤ 16) × (at + stepRoom * n ≤ length (now out)) ⌝ }
     ensures { λ r. ⌜ Written (now (out .entry)) at (flatMap printStep (take n steps)) (stepRoom * n) (now (out .exit)) r ⌝ }
 {

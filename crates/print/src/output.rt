@@ -5,7 +5,7 @@ ghost use lib.ListN.{length};
 ghost use Rattle.print.specs.Output.{Written};
 
 // One byte; the place behind it is returned.
-pub fn put(out: &mut [u8], at: usize, b: u8) -> usize
+pub(crate) fn put(out: &mut [u8], at: usize, b: u8) -> usize
     requires { ⌜ at < length (now out) ⌝ }
     ensures { λ r. ⌜ Written (now (out .entry)) at (b ∷ []) 1 (now (out .exit)) r ⌝ }
 {

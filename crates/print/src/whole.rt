@@ -45,7 +45,7 @@ fn counts_fit(tables: usize, steps: usize, rows: usize, numbers: usize) -> bool
 }
 
 // The lines of an answer of the engine: each table's set, the steps, and the rows that stand in `result`.
-pub fn write_report(
+fn write_report(
     out: &mut [u8],
     sets: [u64; TABLES],
     tables: usize,

@@ -43,7 +43,7 @@ pub fn pair_fits(p: StoredPair, node: u16, used: u64) -> bool
 }
 
 // Whether every pair's sides fit, the first pair being the node after the tables.
-pub fn sides_built(tables: u16, order: Order) -> bool
+fn sides_built(tables: u16, order: Order) -> bool
     requires { ⌜ (tables ≤ 8) × (order .count ≤ 7) ⌝ }
     ensures { λ r. ⌜ r ≡ builtFrom tables 0 (orderIn order) ⌝ }
 {
@@ -65,7 +65,7 @@ pub fn sides_built(tables: u16, order: Order) -> bool
 }
 
 // Whether there is one pair fewer than tables, each side is lower than its node, and no node is a side twice.
-pub fn well_built(tables: u16, order: Order) -> bool
+fn well_built(tables: u16, order: Order) -> bool
     requires { ⌜ (tables ≤ 8) × (order .count ≤ 7) ⌝ }
     ensures { λ r. ⌜ r ≡ wellBuilt tables (orderIn order) ⌝ }
 {

@@ -18,7 +18,7 @@ ghost use Rattle.plan.specs.Questions.{question6};
 ghost use Rattle.questions.specs.ConditionWords.{columnUnder, sideUnder, conditionUnder, numberFits, joinFits};
 
 // The condition of a number; where there is none, one with no operator.
-pub fn condition_at(q: StoredQuery, k: usize) -> Condition
+pub(crate) fn condition_at(q: StoredQuery, k: usize) -> Condition
     requires { ⌜ q .«condition_count» ≤ 32 ⌝ }
     ensures { λ r. ⌜ r ≡ conditionAt (queryIn q) k ⌝ }
 {
@@ -34,7 +34,7 @@ pub fn condition_at(q: StoredQuery, k: usize) -> Condition
 }
 
 // Whether a column exists, of a table among these.
-pub fn column_exists(q: StoredQuery, tables: u64, table: u16, column: u16) -> bool
+fn column_exists(q: StoredQuery, tables: u64, table: u16, column: u16) -> bool
     requires { ⌜ q .«table_count» ≤ 8 ⌝ }
     ensures { λ r. ⌜ r ≡ columnUnder (queryIn q) tables table column ⌝ }
 {
@@ -51,7 +51,7 @@ pub fn column_exists(q: StoredQuery, tables: u64, table: u16, column: u16) -> bo
 }
 
 // Whether a condition's second side names an existing column of another table among these.
-pub fn side_exists(q: StoredQuery, tables: u64, table: u16, side: Side) -> bool
+fn side_exists(q: StoredQuery, tables: u64, table: u16, side: Side) -> bool
     requires { ⌜ q .«table_count» ≤ 8 ⌝ }
     ensures { λ r. ⌜ r ≡ sideUnder (queryIn q) tables table side ⌝ }
 {
@@ -67,7 +67,7 @@ pub fn side_exists(q: StoredQuery, tables: u64, table: u16, side: Side) -> bool
 }
 
 // Whether a condition names existing columns of tables among these, a C line two different tables.
-pub fn condition_fits(q: StoredQuery, tables: u64, c: Condition) -> bool
+fn condition_fits(q: StoredQuery, tables: u64, c: Condition) -> bool
     requires { ⌜ q .«table_count» ≤ 8 ⌝ }
     ensures { λ r. ⌜ r ≡ conditionUnder (queryIn q) tables c ⌝ }
 {
@@ -79,7 +79,7 @@ pub fn condition_fits(q: StoredQuery, tables: u64, c: Condition) -> bool
 }
 
 // The same of each of the `count` conditions from number `first` on.
-pub fn line_fits(q: StoredQuery, tables: u64, first: u16, count: u16) -> bool
+fn line_fits(q: StoredQuery, tables: u64, first: u16, count: u16) -> bool
     requires { ⌜ (q .«table_count» ≤ 8) × (q .«condition_count» ≤ 32) ⌝ }
     ensures { λ r. ⌜ r ≡ all (numberFits (queryIn q) tables) (range first count) ⌝ }
 {
@@ -96,7 +96,7 @@ pub fn line_fits(q: StoredQuery, tables: u64, first: u16, count: u16) -> bool
 }
 
 // The same of every J line's conditions and the tables under it.
-pub fn lines_fit(q: StoredQuery, nodes: [u64; NODES]) -> bool
+fn lines_fit(q: StoredQuery, nodes: [u64; NODES]) -> bool
     requires { ⌜ (q .«table_count» ≤ 8) × (q .«join_count» ≤ 7) × (q .«condition_count» ≤ 32) ⌝ }
     ensures { λ r. ⌜ r ≡ all (joinFits (queryIn q) nodes) (queryIn q .joins) ⌝ }
 {

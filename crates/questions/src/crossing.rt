@@ -46,7 +46,7 @@ pub fn side_crosses(table: u16, side: Side, left: u64, right: u64) -> bool
 }
 
 // Whether one of the `count` conditions from number `first` on is such a C line.
-pub fn line_crosses(q: StoredQuery, left: u64, right: u64, first: u16, count: u16) -> bool
+fn line_crosses(q: StoredQuery, left: u64, right: u64, first: u16, count: u16) -> bool
     requires { ⌜ q .«condition_count» ≤ 32 ⌝ }
     ensures { λ r. ⌜ r ≡ any (numberCrosses (queryIn q) left right) (range first count) ⌝ }
 {
@@ -64,7 +64,7 @@ pub fn line_crosses(q: StoredQuery, left: u64, right: u64, first: u16, count: u1
 }
 
 // Whether every J line has such a C line.
-pub fn lines_cross(q: StoredQuery, nodes: [u64; NODES]) -> bool
+fn lines_cross(q: StoredQuery, nodes: [u64; NODES]) -> bool
     requires { ⌜ (q .«join_count» ≤ 7) × (q .«condition_count» ≤ 32) ⌝ }
     ensures { λ r. ⌜ r ≡ all (joinCrosses (queryIn q) nodes) (queryIn q .joins) ⌝ }
 {

@@ -21,7 +21,7 @@ pub fn lines(q: StoredQuery) -> StoredQuery
 }
 
 // The tables under each node of the J lines.
-pub fn nodes(q: StoredQuery) -> [u64; NODES]
+pub(crate) fn nodes(q: StoredQuery) -> [u64; NODES]
     requires { ⌜ (q .«table_count» ≤ 8) × (q .«join_count» ≤ 7) ⌝ }
     ensures { λ r. ⌜ r ≡ nodeWords (joinNodes (queryIn q)) ⌝ }
 {

@@ -81,7 +81,7 @@ pub fn with_condition(
 }
 
 // A J line more.
-pub fn after_join(s: Joins, kind: Kind, left: u16, right: u16) -> Joins
+pub(crate) fn after_join(s: Joins, kind: Kind, left: u16, right: u16) -> Joins
     requires { ⌜ s .count < 65535 ⌝ }
     ensures { λ r. ⌜ r ≡ afterJoin s kind left right ⌝ }
 {
@@ -106,7 +106,7 @@ pub fn after_join(s: Joins, kind: Kind, left: u16, right: u16) -> Joins
 }
 
 // A C or K line more.
-pub fn after_condition(s: Joins, c: Condition) -> Joins
+pub(crate) fn after_condition(s: Joins, c: Condition) -> Joins
     requires { ⌜ (s .«condition_count» < 65535) × (s .latest .count < 65535) ⌝ }
     ensures { λ r. ⌜ r ≡ afterCondition s c ⌝ }
 {

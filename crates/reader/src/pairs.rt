@@ -36,7 +36,7 @@ pub fn with_pair(pairs: [StoredPair; PAIRS], k: u16, p: StoredPair) -> [StoredPa
 }
 
 // A P line more.
-pub fn after_pair(s: Pairs, left: u16, right: u16) -> Pairs
+pub(crate) fn after_pair(s: Pairs, left: u16, right: u16) -> Pairs
     requires { ⌜ s .count < 65535 ⌝ }
     ensures { λ r. ⌜ r ≡ afterPair s left right ⌝ }
 {

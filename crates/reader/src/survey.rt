@@ -63,7 +63,7 @@ pub fn start() -> Reading
 }
 
 // A T line more.
-pub fn on_table(s: Reading, columns: u16) -> Stepped
+fn on_table(s: Reading, columns: u16) -> Stepped
     requires { ⌜ s .tables .count < 65535 ⌝ }
     ensures { λ r. ⌜ stepIn r ≡ onTable s columns ⌝ }
 {
@@ -89,7 +89,7 @@ pub fn on_table(s: Reading, columns: u16) -> Stepped
 }
 
 // A D line of `n` cells more.
-pub fn on_row(s: Reading, n: usize) -> Stepped
+fn on_row(s: Reading, n: usize) -> Stepped
     requires { ⌜ s .tables .rows < 65535 ⌝ }
     ensures { λ r. ⌜ stepIn r ≡ onRow s n ⌝ }
 {
@@ -115,7 +115,7 @@ pub fn on_row(s: Reading, n: usize) -> Stepped
 }
 
 // A J line more.
-pub fn on_join(s: Reading, kind: Kind, left: u16, right: u16) -> Stepped
+fn on_join(s: Reading, kind: Kind, left: u16, right: u16) -> Stepped
     requires { ⌜ s .joins .count < 65535 ⌝ }
     ensures { λ r. ⌜ stepIn r ≡ onJoin s kind left right ⌝ }
 {
@@ -141,7 +141,7 @@ pub fn on_join(s: Reading, kind: Kind, left: u16, right: u16) -> Stepped
 }
 
 // A C or K line more.
-pub fn on_condition(s: Reading, c: Condition) -> Stepped
+fn on_condition(s: Reading, c: Condition) -> Stepped
     requires { ⌜ (s .joins .«condition_count» < 65535) × (s .joins .latest .count < 65535) ⌝ }
     ensures { λ r. ⌜ stepIn r ≡ onCondition s c ⌝ }
 {
@@ -167,7 +167,7 @@ pub fn on_condition(s: Reading, c: Condition) -> Stepped
 }
 
 // A P line more.
-pub fn on_order(s: Reading, left: u16, right: u16) -> Stepped
+fn on_order(s: Reading, left: u16, right: u16) -> Stepped
     requires { ⌜ s .pairs .count < 65535 ⌝ }
     ensures { λ r. ⌜ stepIn r ≡ onOrder s left right ⌝ }
 {
@@ -187,7 +187,7 @@ pub fn on_order(s: Reading, left: u16, right: u16) -> Stepped
 }
 
 // A line more.
-pub fn after_line(s: Reading, x: LineRead) -> Stepped
+fn after_line(s: Reading, x: LineRead) -> Stepped
     requires { ⌜ Bounded 16384 s ⌝ }
     ensures { λ r. ⌜ stepIn r ≡ afterRead s x ⌝ }
 {

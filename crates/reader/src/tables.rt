@@ -101,7 +101,7 @@ pub fn opened_table(layout: Layout, count: u16, offset: usize, columns: u16) -> 
 }
 
 // A T line more.
-pub fn after_table(s: Tables, columns: u16) -> Tables
+pub(crate) fn after_table(s: Tables, columns: u16) -> Tables
     requires { ⌜ s .count < 65535 ⌝ }
     ensures { λ r. ⌜ r ≡ afterTable s columns ⌝ }
 {
@@ -146,7 +146,7 @@ pub fn cells_after(cells: usize, n: usize) -> usize
 }
 
 // A D line of `n` cells more.
-pub fn after_row(s: Tables, n: usize) -> Tables
+pub(crate) fn after_row(s: Tables, n: usize) -> Tables
     requires { ⌜ s .rows < 65535 ⌝ }
     ensures { λ r. ⌜ r ≡ afterRow s n ⌝ }
 {

@@ -31,7 +31,7 @@ const DIGITS: usize = 4;
 const LARGEST: u64 = 9999;
 
 // The whole of `f` as a decimal number with no leading zero, of at most `limit`.
-pub fn natural_within(f: &[u8], limit: u64) -> Natural
+fn natural_within(f: &[u8], limit: u64) -> Natural
     requires { ⌜ limit ≤ 4294967296 ⌝ }
     ensures { λ r. ⌜ naturalIn r ≡ atMost limit (natural (now (f .entry))) ⌝ }
 {
