@@ -8,7 +8,7 @@ use Rattle.cells.specs.Choice.{if_then_else_}
 use Rattle.plan.specs.Steps.{zeroStep}
 use Rattle.text.specs.Bytes.{Bytes}
 use Rattle.engine.specs.Calls.{Lent, ReportCall, reportCall, DirectCall, directCall}
-use Rattle.engine.specs.Gave.{tablesIn}
+use Rattle.engine.specs.Gave.{widthOf}
 use Rattle.engine.specs.declared.answer.Answer.{Answer}
 use Rattle.engine.specs.declared.answer.Answer.the-variants.{Rows, Refused}
 use Rattle.program.specs.PrintedCalls.{PrintedCall, printReportCall, printDirectCall}
@@ -42,16 +42,11 @@ reportEntry text m run =
     let c : ReportCall = reportCall text m (replicate 16 zeroStep) in
     entry 92 (c .answer) (reportNumbers c) (c .lent) m run
 
--- how many tables an answer's text has; a refusal has none
-unfoldable pub tablesOf : Bytes → Answer → ℕ
-tablesOf text (Rows n) = tablesIn text
-tablesOf text (Refused n) = 0
-
 -- the direct reading: its rows and tables
 unfoldable pub directEntry : Bytes → Lent → List ℕ → Entry
 directEntry text m run =
     let c : DirectCall = directCall text m in
-    entry 2 (c .answer) (rowsOf (c .answer) ∷ tablesOf text (c .answer) ∷ []) (c .lent) m run
+    entry 2 (c .answer) (rowsOf (c .answer) ∷ widthOf text (c .answer) ∷ []) (c .lent) m run
 
 -- ---- prints
 

@@ -11,13 +11,13 @@ use Rattle.text.specs.Bytes.{Bytes}
 use Rattle.print.specs.Output.{Written, written-as}
 use Rattle.print.specs.declared.whole.Printed.{Printed}
 use Rattle.engine.specs.Calls.{Lent, ReportCall, reportCall, DirectCall, directCall}
-use Rattle.engine.specs.Gave.{Wide}
+use Rattle.engine.specs.Gave.{widthOf}
 use Rattle.engine.specs.declared.answer.Answer.{Answer}
 use Rattle.engine.specs.declared.answer.Answer.the-variants.{Rows, Refused}
 use Rattle.program.specs.PrintedCalls.{PrintedCall}
 use Rattle.capi.specs.Numbers.{statusOf, rowsOf, atFront, bytesOf}
 use Rattle.capi.specs.NumberLaws.{front-written}
-use Rattle.capi.specs.Entries.{noRoom, Entry, entry, reportNumbers, reportEntry, tablesOf, directEntry, PrintEntry, printEntry}
+use Rattle.capi.specs.Entries.{noRoom, Entry, entry, reportNumbers, reportEntry, directEntry, PrintEntry, printEntry}
 
 -- ---- any call
 
@@ -49,27 +49,27 @@ report-done text m run {c} e h s p =
 
 module _ (text : Bytes) (m : Lent) (run : List ℕ) {a : Answer} {after : Lent} (e : record { answer = a; lent = after } ≡ directCall text m)
     (h : 2 ≤ length run) where
-  direct-done : {status r : ℕ} {run′ : List ℕ} → status ≡ statusOf a → Written run 0 (rowsOf a ∷ tablesOf text a ∷ []) 2 run′ r
+  direct-done : {status r : ℕ} {run′ : List ℕ} → status ≡ statusOf a → Written run 0 (rowsOf a ∷ widthOf text a ∷ []) 2 run′ r
       → record { status = status; answer = run′; lent = after } ≡ directEntry text m run
   unfolding directEntry
   direct-done s p =
-      put-entry 2 a (rowsOf a ∷ tablesOf text a ∷ []) after m run h s p
-      ∙ ap (λ (z : DirectCall). entry 2 (z .answer) (rowsOf (z .answer) ∷ tablesOf text (z .answer) ∷ []) (z .lent) m run) e
+      put-entry 2 a (rowsOf a ∷ widthOf text a ∷ []) after m run h s p
+      ∙ ap (λ (z : DirectCall). entry 2 (z .answer) (rowsOf (z .answer) ∷ widthOf text (z .answer) ∷ []) (z .lent) m run) e
 
-  pub direct-rows : (k tables : ℕ) {r : ℕ} {run′ : List ℕ} → a ≡ Rows k → Wide text a tables → Written run 0 (k ∷ tables ∷ []) 2 run′ r
+  pub direct-rows : (k tables : ℕ) {r : ℕ} {run′ : List ℕ} → a ≡ Rows k → tables ≡ widthOf text a → Written run 0 (k ∷ tables ∷ []) 2 run′ r
       → record { status = 0; answer = run′; lent = after } ≡ directEntry text m run
-  unfolding statusOf rowsOf tablesOf
+  unfolding statusOf rowsOf widthOf
   direct-rows k tables f w p =
       let x : rowsOf a ≡ k = ap rowsOf f in
-      let y : tablesOf text a ≡ tables = ap (tablesOf text) f ∙ sym (w k f) in
+      let y : widthOf text a ≡ tables = sym w in
       direct-done (sym (ap statusOf f)) (written-as (rw (x, y)) (le-refl 2) p)
 
   pub direct-refused : (k : ℕ) {r : ℕ} {run′ : List ℕ} → a ≡ Refused k → Written run 0 (0 ∷ 0 ∷ []) 2 run′ r
       → record { status = k; answer = run′; lent = after } ≡ directEntry text m run
-  unfolding statusOf rowsOf tablesOf
+  unfolding statusOf rowsOf widthOf
   direct-refused k f p =
       let x : rowsOf a ≡ 0 = ap rowsOf f in
-      let y : tablesOf text a ≡ 0 = ap (tablesOf text) f in
+      let y : widthOf text a ≡ 0 = ap (widthOf text) f in
       direct-done (sym (ap statusOf f)) (written-as (rw (x, y)) (le-refl 2) p)
 
 -- ---- prints

@@ -12,9 +12,10 @@ use Rattle.text.specs.Bytes.{Bytes}
 use Rattle.engine.specs.Calls.{Lent, reportCall, directCall}
 use Rattle.engine.specs.CallLaws.{Decided, report-decided, direct-decided}
 use Rattle.engine.specs.declared.answer.Answer.{Answer}
+use Rattle.engine.specs.Gave.{widthOf}
 use Rattle.engine.specs.declared.answer.Answer.the-variants.{Rows, Refused}
 use Rattle.capi.specs.Numbers.{statusOf, rowsOf}
-use Rattle.capi.specs.Entries.{entry, reportNumbers, reportEntry, tablesOf, directEntry}
+use Rattle.capi.specs.Entries.{entry, reportNumbers, reportEntry, directEntry}
 
 -- a status tells which answer there is
 abbrev pub Told : Answer → ℕ → Type 0
@@ -41,4 +42,4 @@ module _ (text : Bytes) (m : Lent) (run : List ℕ) where
   unfolding directEntry
   direct-told h =
       let c = directCall text m in
-      told (c .answer) _ (with-room 2 (c .answer) (rowsOf (c .answer) ∷ tablesOf text (c .answer) ∷ []) (c .lent) m run h) (direct-decided text m)
+      told (c .answer) _ (with-room 2 (c .answer) (rowsOf (c .answer) ∷ widthOf text (c .answer) ∷ []) (c .lent) m run h) (direct-decided text m)

@@ -31,7 +31,7 @@ use Rattle.accept.specs.Accept.{numberIn, refusal, Accepts, Passed}
 use Rattle.engine.specs.Answers.{Outcome, refused, answered, directOutcome}
 use Rattle.engine.specs.Asked.{passed-early, five-yes}
 use Rattle.engine.specs.Calls.{Lent, question1Direct, cleared, directAfter, DirectCall, directCall}
-use Rattle.engine.specs.Gave.{answerFor, resultFor, Gave, elevenOf, TreeRead, tablesIn, Wide}
+use Rattle.engine.specs.Gave.{answerFor, resultFor, Gave, elevenOf, TreeRead, tablesIn, widthOf, ifRows}
 use Rattle.engine.specs.Kept.{counted, tables-kept, some-table}
 use Rattle.engine.specs.Readable.{readable}
 use Rattle.engine.specs.DirectLaws.{direct-early, direct-passed}
@@ -64,8 +64,17 @@ eleven-over e = sym (ap elevenOf e)
 -- ---- the count of tables
 
 -- a refusal has none
-pub no-width : (bs : Bytes) (n tables : ℕ) → Wide bs (Refused n) tables
-no-width bs n tables k e = let z : _≡_ {A = ℕ} 0 1 = cc in absurd (omega arith)
+pub no-width : (bs : Bytes) (n : ℕ) → 0 ≡ widthOf bs (Refused n)
+unfolding widthOf
+no-width bs n = refl
+
+pub if-rows : (a : Answer) (n k : ℕ) → a ≡ Rows k → n ≡ ifRows a n
+unfolding ifRows
+if-rows a n k e = sym (ap (λ (z : Answer). ifRows z n) e)
+
+pub if-refused : (a : Answer) (n k : ℕ) → a ≡ Refused k → 0 ≡ ifRows a n
+unfolding ifRows
+if-refused a n k e = sym (ap (λ (z : Answer). ifRows z n) e)
 
 -- ---- a text
 
@@ -87,9 +96,9 @@ module _ {bs : Bytes} {before after : List ℤ} {x : Read.Answer} (h : Accepts b
         let p = h .passed e in
         subst Readable (sym (p .kept)) (readable p (five-yes (reportOf (p .lines)) (passed-early bs (p .lines) (p .read) text-passed)))
 
-    pub text-width : {a : Answer} → Wide bs a (x .query .«table_count»)
+    tables-read : x .query .«table_count» ≡ tablesIn bs
     unfolding tablesIn reportOf tableCount queryOf
-    text-width k f =
+    tables-read =
         let p = h .passed e in
         tables-kept p ∙ length-map ((reportOf (p .lines)) .tables) _ ∙ go (readReport bs) (read-report bs (p .lines) (p .read))
       where
@@ -97,6 +106,11 @@ module _ {bs : Bytes} {before after : List ℤ} {x : Read.Answer} (h : Accepts b
             ≡ (elim o as (λ z. ℕ) [ none ↦ 0 | some r ↦ length (r .tables) ])
         go none g = let z : _≡_ {A = ℕ} 0 1 = cc in absurd (omega arith)
         go (some r) g = let y : r ≡ reportOf (h .passed e .lines) = cc in ap (λ (z : Report). length (z .tables)) (sym y)
+
+    pub text-width : (a : Answer) → ifRows a (x .query .«table_count») ≡ widthOf bs a
+    unfolding ifRows widthOf
+    text-width (Rows k) = tables-read
+    text-width (Refused n) = refl
 
     pub text-tables : 1 ≤ x .query .«table_count»
     text-tables = some-table (h .passed e)

@@ -53,6 +53,12 @@ pub record TreeRead (D : Database ℕ) (q : StoredQuery) (w w′ : List ℕ) (a 
 unfoldable pub tablesIn : Bytes → ℕ
 tablesIn bs = elim (readReport bs) [ none ↦ 0 | some r ↦ length (r .tables) ]
 
--- an answer's count of tables, which is how many numbers a row has
-abbrev pub Wide : Bytes → Answer → ℕ → Type 0
-Wide bs a tables = (k : ℕ) → a ≡ Rows k → tables ≡ tablesIn bs
+-- an answer's count of tables, which is how many numbers a row has; a refusal has none
+unfoldable pub widthOf : Bytes → Answer → ℕ
+widthOf bs (Rows k) = tablesIn bs
+widthOf bs (Refused n) = 0
+
+-- a count that only an answer with rows keeps
+unfoldable pub ifRows : Answer → ℕ → ℕ
+ifRows (Rows k) n = n
+ifRows (Refused m) n = 0

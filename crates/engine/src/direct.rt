@@ -12,7 +12,7 @@ ghost use Rattle.joins.specs.Work.{workspace};
 ghost use Rattle.run.specs.Reading.{Readable};
 ghost use Rattle.engine.specs.Answers.{directOutcome};
 ghost use Rattle.engine.specs.Calls.{directCall};
-ghost use Rattle.engine.specs.Gave.{Gave, Wide, TreeRead};
+ghost use Rattle.engine.specs.Gave.{Gave, TreeRead, widthOf, ifRows};
 
 // Questions 8 and 11 of a query, and its rows.
 fn read_tree(q: StoredQuery, cells: &[i32], work: &mut [u16], result: &mut [u16]) -> Answer
@@ -29,7 +29,17 @@ fn read_tree(q: StoredQuery, cells: &[i32], work: &mut [u16], result: &mut [u16]
     }
 }
 
-// What the direct reading of a text finds: its answer, and how many numbers a row has.
+// A count that only an answer with rows keeps.
+fn if_rows(a: Answer, n: u16) -> usize
+    ensures { λ r. ⌜ r ≡ ifRows a n ⌝ }
+{
+    match a {
+        Answer::Rows(_) => n as usize,
+        Answer::Refused(_) => 0,
+    }
+}
+
+// What the direct reading of a text finds: its answer, and how many numbers a row has; 0 where there are no rows.
 pub struct Found {
     pub answer: Answer,
     pub tables: usize,
@@ -38,7 +48,7 @@ pub struct Found {
 // Questions 2 to 8 and 11 of a text, and its rows. The cell run and the work buffer are left as they come.
 fn read_text(text: &[u8], cells: &mut [i32], work: &mut [u16], result: &mut [u16]) -> Found
     requires { ⌜ (4096 ≤ length (now cells)) × (16384 ≤ length (now work)) × (2048 ≤ length (now result)) ⌝ }
-    ensures { λ r. ⌜ Gave (directOutcome (now (text .entry))) (now (result .entry)) (now (result .exit)) (r .answer) × Wide (now (text .entry)) (r .answer) (r .tables) ⌝ }
+    ensures { λ r. ⌜ Gave (directOutcome (now (text .entry))) (now (result .entry)) (now (result .exit)) (r .answer) × (r .tables ≡ widthOf (now (text .entry)) (r .answer)) ⌝ }
 {
     let a = accept::accept::accept(text, cells);
     let outcome = a.outcome;
@@ -48,10 +58,13 @@ fn read_text(text: &[u8], cells: &mut [i32], work: &mut [u16], result: &mut [u16
             answer: Answer::Refused(n),
             tables: 0,
         },
-        Outcome::Accepted => Found {
-            answer: read_tree(q, cells, work, result),
-            tables: q.table_count as usize,
-        },
+        Outcome::Accepted => {
+            let answer = read_tree(q, cells, work, result);
+            Found {
+                answer: answer,
+                tables: if_rows(answer, q.table_count),
+            }
+        }
     }
 }
 
@@ -59,7 +72,7 @@ fn read_text(text: &[u8], cells: &mut [i32], work: &mut [u16], result: &mut [u16
 pub fn find(text: &[u8], cells: &mut [i32], work: &mut [u16], result: &mut [u16]) -> Found
     ensures { λ r. ⌜ (record { answer = r .answer; lent = record { cells = now (cells .exit); work = now (work .exit); result = now (result .exit) } }
         ≡ directCall (now (text .entry)) (record { cells = now (cells .entry); work = now (work .entry); result = now (result .entry) }))
-        × Wide (now (text .entry)) (r .answer) (r .tables) ⌝ }
+        × (r .tables ≡ widthOf (now (text .entry)) (r .answer)) ⌝ }
 {
     if work.len() < 16384 {
         return Found {

@@ -23,7 +23,7 @@ use Rattle.print.specs.declared.whole.Printed.the-variants.{Bytes as Wrote, NoR
 use Rattle.engine.specs.Answers.{Outcome, refused, answered, directOutcome}
 use Rattle.engine.specs.Bounds.{Bounded, direct-bounded}
 use Rattle.engine.specs.Calls.{Lent, question1Direct, written, cleared, DirectCall, directAfter, directCall}
-use Rattle.engine.specs.Gave.{tablesIn, Wide}
+use Rattle.engine.specs.Gave.{tablesIn, widthOf}
 use Rattle.engine.specs.Programs.{printDirect, direct}
 use Rattle.engine.specs.declared.answer.Answer.{Answer}
 use Rattle.engine.specs.declared.answer.Answer.the-variants.{Rows, Refused}
@@ -153,13 +153,15 @@ module _ (text : Bytes) (m : Lent) {a : Answer} {after : Lent} (e : record { ans
   printed-refused n {r} f p = as-call (printRefusal n) r (direct-refused text m n (sym (ap (λ (z : DirectCall). z .answer) e) ∙ f))
       (call-printed (printRefusal n) after m out h (printed-bytes true (printRefusal n) out h refl) p)
 
-  pub printed-rows : (k tables : ℕ) {r : Printed} → a ≡ Rows k → Wide text a tables → length (after .result) ≡ length (m .result)
+  pub printed-rows : (k tables : ℕ) {r : Printed} → a ≡ Rows k → tables ≡ widthOf text a → length (after .result) ≡ length (m .result)
       → Prints (P.printed (fitting tables 0 k (length (after .result))) (flatMap printRow (rowsIn tables k (after .result))) out) r out′
       → record { answer = r; output = out′; lent = after } ≡ printDirectCall text m out
+  unfolding widthOf
   printed-rows k tables {r} f wide long p =
       let b = flatMap printRow (rowsIn tables k (after .result)) in
+      let v : tables ≡ tablesIn text = wide ∙ ap (widthOf text) f in
       let x : directCall text m .answer ≡ Rows k = sym (ap (λ (z : DirectCall). z .answer) e) ∙ f in
       let y : after .result ≡ directCall text m .lent .result = ap (λ (l : Lent). l .result) after-is in
-      as-call b r (direct-bytes text m tables k (after .result) x y (wide k f) long)
+      as-call b r (direct-bytes text m tables k (after .result) x y v long)
       (call-printed b after m out h
-      (printed-bytes (fitting tables 0 k (length (after .result))) b out h (direct-fits text m tables k (after .result) x y (wide k f) long)) p)
+      (printed-bytes (fitting tables 0 k (length (after .result))) b out h (direct-fits text m tables k (after .result) x y v long)) p)

@@ -7,13 +7,13 @@ use Rattle.engine.proofs.direct.find.Statement.{statement}
 use Rattle.engine.proofs.direct.find.Tie as tie
 
 returns : tie.Need-returns
-returns c = (short-work _ _ _ _ (search needs), no-width _ _ _)
+returns c = (short-work _ _ _ _ (search needs), no-width _ _)
 
 returns-2 : tie.Need-returns-2
-returns-2 c = (short-result _ _ _ _ (search needs) (search needs), no-width _ _ _)
+returns-2 c = (short-result _ _ _ _ (search needs) (search needs), no-width _ _)
 
 returns-3 : tie.Need-returns-3
-returns-3 c = (short-cells _ _ _ _ (search needs) (search needs) (search needs), no-width _ _ _)
+returns-3 c = (short-cells _ _ _ _ (search needs) (search needs) (search needs), no-width _ _)
 
 read-text-requires : tie.Need-read-text-requires
 read-text-requires c κs = search needs

@@ -1,4 +1,5 @@
 -- `engine::direct::read_text` meets its contract: the refusal of questions 2 to 7, or the tree read. Assumes nothing.
+use mathlib.Core.Path.{_∙_}
 use Rattle.engine.specs.DirectCode.{no-width, text-refused, text-counted, text-readable, text-width, text-tables, text-read}
 use borrow.Author.Needs.{needs}
 use Rattle.engine.proofs.direct.read_text.Statement.{statement}
@@ -21,8 +22,8 @@ read-tree-requires c κs =
     let e = t .enum-told .given .1 in
     (text-counted (x .accept .ensures) e, text-readable (x .accept .ensures) e, text-tables (x .accept .ensures) e, s .pre .1, s .pre .2)
 
-cast-t20 : tie.Need-cast-t20
-cast-t20 c = search needs
+if-rows-requires : tie.Need-if-rows-requires
+if-rows-requires c κs = search needs
 
 same-length : tie.Need-same-length
 same-length c = search needs
@@ -30,7 +31,7 @@ same-length c = search needs
 returns : tie.Need-returns
 returns c =
     let x = c .before .before .before .before .before in
-    (text-refused (x .accept .ensures) (c .before .outcome .given .1), no-width _ _ _)
+    (text-refused (x .accept .ensures) (c .before .outcome .given .1), no-width _ _)
 
 same-length-2 : tie.Need-same-length-2
 same-length-2 c = search needs
@@ -48,7 +49,7 @@ returns-2 c =
     let x = t .before .before .before .before in
     let s = x .before .before .before .before .before in
     let e = t .enum-told .given .1 in
-    (text-read (x .accept .ensures) e (s .pre .0) (d .read-tree .ensures), text-width (x .accept .ensures) e)
+    (text-read (x .accept .ensures) e (s .pre .0) (d .read-tree .ensures), c .if-rows .ensures ∙ text-width (x .accept .ensures) e _)
 
 pub read-text-spec : {M : Type 1} → statement M
 read-text-spec =
@@ -58,7 +59,7 @@ read-text-spec =
     enum-known-outcome
     enum-told
     read-tree-requires
-    cast-t20
+    if-rows-requires
     same-length
     returns
     same-length-2
