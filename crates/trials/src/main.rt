@@ -2,11 +2,9 @@
 // line. Where a name begins with `=`, the answers are printed too. What follows that mark, or begins the name, chooses the lent memory:
 // `-` and c, w or r, the cell run, the work buffer or the result buffer one number shorter than question 1 wants; `+`, all of them
 // larger; anything else, what question 1 wants.
-mod calls;
-mod memory;
-
 use print::whole;
 use text::part;
+use trial::calls;
 ghost use Prim.Native.Nat.{_≤_};
 
 // What ends a name, and what ends a text.

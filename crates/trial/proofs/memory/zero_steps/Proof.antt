@@ -1,8 +1,8 @@
--- `trials::memory::zero_steps` meets its contract: each turn looks at the next step. Assumes nothing.
+-- `trial::memory::zero_steps` meets its contract: each turn looks at the next step. Assumes nothing.
 use borrow.Author.Needs.{needs}
 use Prim.Native.Nat.{_≤_, _-_}
-use Rattle.trials.proofs.memory.zero_steps.Statement.{statement}
-use Rattle.trials.proofs.memory.zero_steps.Tie as tie
+use Rattle.trial.proofs.memory.zero_steps.Statement.{statement}
+use Rattle.trial.proofs.memory.zero_steps.Tie as tie
 
 abbrev Inv-loop : tie.InvT-loop
 Inv-loop from steps k₀ k = k₀ ≤ k

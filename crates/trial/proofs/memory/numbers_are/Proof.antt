@@ -1,9 +1,9 @@
--- `trials::memory::numbers_are` meets its contract: each turn looks at the next number. Assumes nothing.
+-- `trial::memory::numbers_are` meets its contract: each turn looks at the next number. Assumes nothing.
 use borrow.Author.Needs.{needs}
 use Prim.Native.Nat.{_≤_, _-_}
 use lib.ListN.{length}
-use Rattle.trials.proofs.memory.numbers_are.Statement.{statement}
-use Rattle.trials.proofs.memory.numbers_are.Tie as tie
+use Rattle.trial.proofs.memory.numbers_are.Statement.{statement}
+use Rattle.trial.proofs.memory.numbers_are.Tie as tie
 
 abbrev Inv-loop : tie.InvT-loop
 Inv-loop numbers from cleared i₀ i = i₀ ≤ i

@@ -1,10 +1,10 @@
--- `trials::memory::fill_numbers` meets its contract: the length stays. Assumes nothing.
+-- `trial::memory::fill_numbers` meets its contract: the length stays. Assumes nothing.
 use borrow.Author.Needs.{needs}
 use mathlib.Core.Path.{_≡_}
 use Prim.Native.Nat.{_≤_, _-_}
 use lib.ListN.{length}
-use Rattle.trials.proofs.memory.fill_numbers.Statement.{statement}
-use Rattle.trials.proofs.memory.fill_numbers.Tie as tie
+use Rattle.trial.proofs.memory.fill_numbers.Statement.{statement}
+use Rattle.trial.proofs.memory.fill_numbers.Tie as tie
 
 abbrev Inv-loop : tie.InvT-loop
 Inv-loop numbers₀ i₀ numbers i = (i ≤ length numbers₀) × (length numbers ≡ length numbers₀)

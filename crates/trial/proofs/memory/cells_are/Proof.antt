@@ -1,9 +1,9 @@
--- `trials::memory::cells_are` meets its contract: each turn looks at the next number. Assumes nothing.
+-- `trial::memory::cells_are` meets its contract: each turn looks at the next number. Assumes nothing.
 use borrow.Author.Needs.{needs}
 use Prim.Native.Nat.{_≤_, _-_}
 use lib.ListN.{length}
-use Rattle.trials.proofs.memory.cells_are.Statement.{statement}
-use Rattle.trials.proofs.memory.cells_are.Tie as tie
+use Rattle.trial.proofs.memory.cells_are.Statement.{statement}
+use Rattle.trial.proofs.memory.cells_are.Tie as tie
 
 abbrev Inv-loop : tie.InvT-loop
 Inv-loop cells cleared i₀ i = i₀ ≤ i

@@ -1,9 +1,9 @@
--- `trials::calls::tables_in` meets its contract: there are no more letters than bytes. Assumes nothing.
+-- `trial::calls::tables_in` meets its contract: there are no more letters than bytes. Assumes nothing.
 use borrow.Author.Needs.{needs}
 use Prim.Native.Nat.{_≤_, _-_}
 use lib.ListN.{length}
-use Rattle.trials.proofs.calls.tables_in.Statement.{statement}
-use Rattle.trials.proofs.calls.tables_in.Tie as tie
+use Rattle.trial.proofs.calls.tables_in.Statement.{statement}
+use Rattle.trial.proofs.calls.tables_in.Tie as tie
 
 abbrev Inv-loop : tie.InvT-loop
 Inv-loop text n₀ i₀ n i = (n ≤ i) × (i ≤ length text)

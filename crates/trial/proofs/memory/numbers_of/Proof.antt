@@ -1,10 +1,10 @@
--- `trials::memory::numbers_of` meets its contract: the product of small counts fits. Assumes nothing.
+-- `trial::memory::numbers_of` meets its contract: the product of small counts fits. Assumes nothing.
 use Prim.Native.Nat.{_*_, _≤_}
 use native.Mathlib.Nat.{mul-le-mul}
 use native.Mathlib.Omega.{arith}
 use borrow.Author.Needs.{needs}
-use Rattle.trials.proofs.memory.numbers_of.Statement.{statement}
-use Rattle.trials.proofs.memory.numbers_of.Tie as tie
+use Rattle.trial.proofs.memory.numbers_of.Statement.{statement}
+use Rattle.trial.proofs.memory.numbers_of.Tie as tie
 
 returns : tie.Need-returns
 returns c = search needs

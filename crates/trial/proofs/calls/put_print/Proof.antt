@@ -1,9 +1,9 @@
--- `trials::calls::put_print` meets its contract: the bytes of a print lie within the output. Assumes nothing.
+-- `trial::calls::put_print` meets its contract: the bytes of a print lie within the output. Assumes nothing.
 use mathlib.Core.Path.{sym}
 use lib.Seq.{length-take-le}
 use borrow.Author.Needs.{needs}
-use Rattle.trials.proofs.calls.put_print.Statement.{statement}
-use Rattle.trials.proofs.calls.put_print.Tie as tie
+use Rattle.trial.proofs.calls.put_print.Statement.{statement}
+use Rattle.trial.proofs.calls.put_print.Tie as tie
 
 enum-known-p : tie.Need-enum-known-p
 enum-known-p c = search needs

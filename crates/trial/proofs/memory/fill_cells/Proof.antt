@@ -1,10 +1,10 @@
--- `trials::memory::fill_cells` meets its contract: the length stays. Assumes nothing.
+-- `trial::memory::fill_cells` meets its contract: the length stays. Assumes nothing.
 use borrow.Author.Needs.{needs}
 use mathlib.Core.Path.{_≡_}
 use Prim.Native.Nat.{_≤_, _-_}
 use lib.ListN.{length}
-use Rattle.trials.proofs.memory.fill_cells.Statement.{statement}
-use Rattle.trials.proofs.memory.fill_cells.Tie as tie
+use Rattle.trial.proofs.memory.fill_cells.Statement.{statement}
+use Rattle.trial.proofs.memory.fill_cells.Tie as tie
 
 abbrev Inv-loop : tie.InvT-loop
 Inv-loop cells₀ i₀ cells i = (i ≤ length cells₀) × (length cells ≡ length cells₀)

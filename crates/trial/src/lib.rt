@@ -1,0 +1,3 @@
+// Calls of the exported routines with memory that is looked at before and behind each call, for program `trials`.
+pub mod calls;
+mod memory;
