@@ -4,12 +4,12 @@ use mathlib.Core.Bool.{Bool, true, false, _&&_}
 use mathlib.Core.List.{List, [], _∷_}
 use mathlib.Core.Option.{Option, none, some}
 use Prim.Native.Nat.{ℕ, _<_, _≤_}
-use native.Mathlib.Omega.{arith}
 use lib.Dec.{T, leb}
 use lib.IntN.{ℤ}
 use lib.ListN.{length}
 use mir.Facts.{and-yes, leb-yes}
 use Rattle.cells.specs.Choice.{if_then_else_}
+use Rattle.cells.specs.BoolLaws.{clash}
 use Rattle.rows.specs.Lists.{all}
 use Rattle.plan.specs.Report.{Query, Report, queryOf, tableCount}
 use Rattle.plan.specs.Stored.{queryIn}
@@ -28,9 +28,6 @@ use Rattle.reader.specs.declared.read.Answer.{Answer}
 use Rattle.reader.specs.declared.read.Outcome.{Outcome}
 use Rattle.reader.specs.declared.read.Outcome.the-variants.{Refused, Accepted}
 use Rattle.accept.specs.Accept.{fiveToSeven, queryRefusal, reportRefusal, refusal, numberIn, storedRefusal, Passed, Accepts}
-
-clash : {A : Type 0} → _≡_ {A = ℕ} 0 1 → A
-clash e = absurd (omega arith)
 
 -- ---- the tests that the code makes
 

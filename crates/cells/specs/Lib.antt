@@ -1,4 +1,5 @@
 pub mod Choice
+pub mod BoolLaws
 pub mod Cell
 pub mod CellLaws
 pub mod Operator

@@ -1,7 +1,7 @@
 -- What holds of all operators, over their code. Assumes nothing.
 use mathlib.Core.Path.{_≡_, refl, sym, _∙_, ap}
 use mathlib.Core.Logic.{_⊎_, ⊎-elim}
-use mathlib.Core.Bool.{Bool, true, false, not, _&&_, _||_}
+use mathlib.Core.Bool.{Bool, true, false, not, _&&_, _||_, and-false, and-comm, or-comm}
 use mathlib.Core.List.{List, [], _∷_}
 use Prim.Native.Nat.{ℕ, _-_, _<_, _≤_}
 use native.Mathlib.Omega.{arith}
@@ -11,6 +11,7 @@ use lib.ListN.{getD, List·getD-map, List·getD-eq-default}
 use lib.Signed.{ltZ, leZ}
 use borrow.Author.Tests.{ltb-true, ltb-false, le-ltb, le-leb, lt-leb, eq-eqb, ne-eqb}
 use Rattle.cells.specs.Choice.{if_then_else_}
+use Rattle.cells.specs.BoolLaws.{is-false}
 use Rattle.cells.specs.Below.{agree, and-left, and-right}
 use Rattle.cells.specs.Cell.{eqZ, isBlank}
 use Rattle.cells.specs.Operator.{columnOf, outcomeOf, never, operators, says, mirrorOf, holds}
@@ -35,12 +36,6 @@ eqb-ltb a b = go (ltb a b) (ltb b a) refl refl
     go false true e f = let h = ltb-true b a f in ne-eqb a b (λ q. omega arith)
     go false false e f = let h = ltb-false a b e in let k = ltb-false b a f in eq-eqb a b (omega arith)
 
-or-sym : (a b : Bool) → (a || b) ≡ (b || a)
-or-sym true true = refl
-or-sym true false = refl
-or-sym false true = refl
-or-sym false false = refl
-
 le-by-less : (x y : ℤ) → leZ x y ≡ not (ltZ y x)
 le-by-less (pos a) (pos b) = leb-ltb a b
 le-by-less (pos a) (negsuc b) = refl
@@ -52,7 +47,7 @@ unfolding eqZ
 eq-by-less (pos a) (pos b) = eqb-ltb a b
 eq-by-less (pos a) (negsuc b) = refl
 eq-by-less (negsuc a) (pos b) = refl
-eq-by-less (negsuc a) (negsuc b) = eqb-ltb a b ∙ ap not (or-sym (ltb a b) (ltb b a))
+eq-by-less (negsuc a) (negsuc b) = eqb-ltb a b ∙ ap not (or-comm (ltb a b) (ltb b a))
 
 less-asym : (x y : ℤ) → ltZ x y ≡ true → ltZ y x ≡ false
 less-asym (pos a) (pos b) e = let h = ltb-true a b e in le-ltb b a (omega arith)
@@ -119,27 +114,19 @@ says-outside op x y h = ⊎-elim (λ l. none op l) (λ l. rw (List·getD-eq-defa
 
 pub holds-outside : (op : ℕ) (x y : ℤ) → (op < 1) ⊎ (6 < op) → holds op x y ≡ false
 unfolding holds
-holds-outside op x y h = rw (says-outside op x y h) (none (not (isBlank x) && not (isBlank y)))
-  where
-    none : (t : Bool) → (t && false) ≡ false
-    none true = refl
-    none false = refl
-
-not-blank : (t : Bool) → T (not t) → t ≡ false
-not-blank true h = absurd h
-not-blank false h = refl
+holds-outside op x y h = rw (says-outside op x y h) (and-false (not (isBlank x) && not (isBlank y)))
 
 -- a true condition has no blank cell, under any operator
 pub holds-left : (op : ℕ) (x y : ℤ) → T (holds op x y) → isBlank x ≡ false
 unfolding holds
 holds-left op x y t =
-    not-blank (isBlank x)
+    is-false (isBlank x)
     (and-left (not (isBlank x)) (not (isBlank y)) (and-left (not (isBlank x) && not (isBlank y)) (says op x y) t))
 
 pub holds-right : (op : ℕ) (x y : ℤ) → T (holds op x y) → isBlank y ≡ false
 unfolding holds
 holds-right op x y t =
-    not-blank (isBlank y)
+    is-false (isBlank y)
     (and-right (not (isBlank x)) (not (isBlank y)) (and-left (not (isBlank x) && not (isBlank y)) (says op x y) t))
 
 -- a condition by its tests
@@ -195,10 +182,4 @@ says-mirror op x y p h =
 
 pub holds-mirror : (op : ℕ) (x y : ℤ) → 0 < op → op ≤ 6 → holds (mirrorOf op) x y ≡ holds op y x
 unfolding holds
-holds-mirror op x y p h = rw (says-mirror op x y p h, and-sym (not (isBlank x)) (not (isBlank y)))
-  where
-    and-sym : (a b : Bool) → (a && b) ≡ (b && a)
-    and-sym true true = refl
-    and-sym true false = refl
-    and-sym false true = refl
-    and-sym false false = refl
+holds-mirror op x y p h = rw (says-mirror op x y p h, and-comm (not (isBlank x)) (not (isBlank y)))

@@ -4,9 +4,9 @@ use mathlib.Core.Bool.{Bool, true, false}
 use mathlib.Core.List.{List, [], _∷_, _++_}
 use mathlib.Core.Option.{Option, none, some}
 use Prim.Native.Nat.{ℕ}
-use native.Mathlib.Omega.{arith}
 use lib.Dec.{T}
 use Rattle.cells.specs.Choice.{if_then_else_}
+use Rattle.cells.specs.BoolLaws.{clash}
 use Rattle.plan.specs.Report.{Report, queryOf}
 use Rattle.plan.specs.Questions.{question5, question6, question7, question8}
 use Rattle.text.specs.Bytes.{Bytes}
@@ -16,9 +16,6 @@ use Rattle.text.specs.ReadingLaws.{read-report}
 use Rattle.text.specs.Questions.{question3, question4}
 use Rattle.accept.specs.Accept.{fiveToSeven, queryRefusal, reportRefusal, refusal}
 use Rattle.engine.specs.Answers.{Outcome, refused, answered, Question, firstNo, sharedQuestions, outcomeFor, outcomeBy}
-
-clash : {A : Type 0} → _≡_ {A = ℕ} 0 1 → A
-clash e = absurd (omega arith)
 
 -- the first no among the answers to questions 3 to 8, or what comes behind them
 abbrev threeToEight : Bool → Bool → Bool → Bool → Bool → Bool → Option ℕ → Option ℕ

@@ -11,7 +11,7 @@ use mir.Facts.{and-yes, leb-yes, eqb-yes}
 use Rattle.cells.specs.Choice.{if_then_else_}
 use Rattle.cells.specs.Row.{Row, blankRow}
 use Rattle.rows.specs.Lists.{range, all, any, keep, distinct}
-use Rattle.rows.specs.ListLaws.{_isIn_, here, there}
+use Rattle.rows.specs.ListLaws.{_isIn_, here, there, keep-fewer, length-range}
 use Rattle.rows.specs.Rows.{same, ordered, whollyBlank, dominated, bestMatch}
 use Rattle.rows.specs.RowLaws.{length-ordered}
 use Rattle.rows.specs.Shapes.{Lawful, Shaped}
@@ -22,7 +22,6 @@ use Rattle.rows.specs.NullificationLaws.{nullifyRow, nullifyAll-map}
 use Rattle.plan.specs.Report.{Table, Report, Query, queryOf, tableCount, tableNumbers, joinOrder}
 use Rattle.plan.specs.Nodes.{joinTrees, joinTree}
 use Rattle.plan.specs.Plan.{plannedJoins, planTrees, planTree, missing, asks, blankings}
-use Rattle.plan.specs.BuiltLaws.{length-range}
 use Rattle.plan.specs.PairWordLaws.{planned-count}
 use Rattle.plan.specs.PlanLaws.{plan-matched, order-built, plan-shaped}
 use Rattle.plan.specs.Questions.{lowerSides, sidesOf, noneTwice, wellBuilt, question9, question10}
@@ -30,7 +29,6 @@ use Rattle.plan.specs.FoldWords.{blanking-proper}
 use Rattle.plan.specs.Sets.{blankingSets}
 use Rattle.plan.specs.Steps.{bitsOf, pairStep, blankingStep, bestMatchStep, stepsOf}
 use Rattle.plan.specs.QueryLaws.{Accepted, query-matched, query-built, query-shaped}
-use Rattle.plan.specs.StepLaws.{keep-fewer}
 use Rattle.text.specs.Bytes.{Bytes}
 use Rattle.text.specs.Lines.{Line}
 use Rattle.text.specs.Reading.{reportOf, textLines, readReport}

@@ -9,6 +9,7 @@ use lib.Dec.{leb}
 use lib.IntN.{ℤ, pos}
 use lib.ListN.{length, replicate, length-map}
 use borrow.Author.Tests.{le-leb, lt-leb}
+use Rattle.cells.specs.BoolLaws.{not-both}
 use Rattle.cells.specs.Row.{Row}
 use Rattle.rows.specs.Rows.{ordered}
 use Rattle.rows.specs.Trees.{Database, rowsOf}
@@ -37,9 +38,6 @@ use Rattle.engine.specs.Readable.{readable}
 use Rattle.engine.specs.DirectLaws.{direct-early, direct-passed}
 use Rattle.engine.specs.declared.answer.Answer.{Answer}
 use Rattle.engine.specs.declared.answer.Answer.the-variants.{Rows, Refused}
-
-not-both : {b : Bool} → b ≡ true → b ≡ false → ⊥
-not-both e f = let z : _≡_ {A = ℕ} 0 1 = cc in omega arith
 
 -- ---- questions 8 and 11
 
@@ -121,7 +119,8 @@ module _ {bs : Bytes} {before after : List ℤ} {x : Read.Answer} (h : Accepts b
 
 -- ---- a call
 
-abbrev lent : List ℤ → List ℕ → List ℕ → Lent
+-- lent memory, by its three parts
+abbrev pub lent : List ℤ → List ℕ → List ℕ → Lent
 lent c w r = record { cells = c; work = w; result = r }
 
 module _ (bs : Bytes) (c : List ℤ) (w r : List ℕ) where

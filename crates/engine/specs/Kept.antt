@@ -13,11 +13,11 @@ use lib.Seq.{take-all, sets-eq}
 use Rattle.cells.specs.Choice.{if_then_else_}
 use Rattle.cells.specs.Condition.{namesOf}
 use Rattle.rows.specs.Lists.{all, any}
+use Rattle.rows.specs.ListLaws.{length-range}
 use Rattle.rows.specs.Trees.{Tree, leaf}
 use Rattle.plan.specs.Report.{Table, Join, Query, queryOf, tableCount, tableNumbers, conditionAt, namedBy, joinPairs}
 use Rattle.plan.specs.Nodes.{treeOf, treesOf, treeAt, lastTree, joinTrees, joinTree}
 use Rattle.plan.specs.NodeLaws.{grown-length}
-use Rattle.plan.specs.BuiltLaws.{length-range}
 use Rattle.plan.specs.Sets.{blanksLeft, blanksRight}
 use Rattle.plan.specs.Stored.{queryIn}
 use Rattle.plan.specs.Counted.{Counted}
@@ -26,7 +26,7 @@ use Rattle.plan.specs.declared.query.StoredQuery.{StoredQuery}
 use Rattle.text.specs.Bytes.{Bytes}
 use Rattle.text.specs.Lines.{Line}
 use Rattle.text.specs.Reading.{tablesOf, textLines, reportOf}
-use Rattle.text.specs.Questions.{cellsInRows, cellsInTables, question3, question4}
+use Rattle.text.specs.Questions.{cellsInTables, question3, question4}
 use Rattle.load.specs.Cells.{laid, textCells}
 use Rattle.load.specs.Flat.{flatRows, flatTables, text-cells}
 use Rattle.questions.specs.Kept.{all-same}
@@ -34,6 +34,7 @@ use Rattle.questions.specs.Whole.{Keeps, whole-nine}
 use Rattle.reader.specs.Query.{storedOf, done}
 use Rattle.reader.specs.Outcome.{TextOutcome, turnedDown, says, readOutcome, outcomeOf, linesOutcome, runAfter, run-accepted}
 use Rattle.reader.specs.Whole.{table-count}
+use Rattle.reader.specs.Looked.{flat-length}
 use Rattle.accept.specs.Accept.{Passed}
 use Rattle.accept.specs.AcceptLaws.{fits-tables, keeps, passed-tables}
 use Rattle.engine.specs.Readable.{few-cells, early}
@@ -136,15 +137,10 @@ module _ {bs : Bytes} {s : StoredQuery} (p : Passed bs s) where
   unfolding readOutcome outcomeOf linesOutcome
   says-kept = sym (ap outcomeOf (p .read) ∙ rw (p .fits, p .even))
 
-  rows-length : (rows : List (List ℤ)) → length (flatRows rows) ≡ cellsInRows rows
-  unfolding flatRows cellsInRows
-  rows-length [] = refl
-  rows-length (zs ∷ rows) = length-append zs (flatRows rows) ∙ rw (rows-length rows)
-
   tables-length : (ts : List Table) → length (flatTables ts) ≡ cellsInTables ts
   unfolding flatTables cellsInTables
   tables-length [] = refl
-  tables-length (t ∷ ts) = length-append (flatRows (t .rows)) (flatTables ts) ∙ ap₂ _+_ (rows-length (t .rows)) (tables-length ts)
+  tables-length (t ∷ ts) = length-append (flatRows (t .rows)) (flatTables ts) ∙ ap₂ _+_ (flat-length (t .rows)) (tables-length ts)
 
   -- the run that the text leaves: its cells, and what was there behind them
   pub run-kept : (before after : List ℤ) → after ≡ runAfter bs before → 4096 ≤ length before

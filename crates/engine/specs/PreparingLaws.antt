@@ -11,6 +11,7 @@ use lib.Dec.{T, ltb}
 use lib.IntN.{ℤ}
 use lib.ListN.{length, take, replicate}
 use borrow.Author.Tests.{lt-ltb, le-ltb, le-leb, lt-leb}
+use Rattle.cells.specs.BoolLaws.{not-both}
 use Rattle.plan.specs.Report.{joinOrder}
 use Rattle.plan.specs.Sets.{blankingSets}
 use Rattle.plan.specs.Plan.{blankings}
@@ -32,7 +33,7 @@ use Rattle.runner.specs.Over.{Runs}
 use Rattle.runner.specs.State.{startRun, Ended}
 use Rattle.runner.specs.declared.state.Run.{Run}
 use Rattle.ready.specs.Ready.{turnedAway, readyFor, QueryPlanned}
-use Rattle.ready.specs.ReadyLaws.{not-both, nine-yes}
+use Rattle.ready.specs.ReadyLaws.{nine-yes}
 use Rattle.ready.specs.declared.prepared.Prepared.{Prepared}
 use Rattle.engine.specs.Planning.{turnedDown, withCounts, handedOver, StepsRun, QueryAsked}
 use Rattle.engine.specs.Preparing.{enoughLent, Ends}

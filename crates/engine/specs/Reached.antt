@@ -1,7 +1,7 @@
 -- What the two runs of an accepted text have over work space is what document 01 defines: question 11 of the direct reading, the counts
 -- of rows of a plan's nodes, and the rows that are handed over. Assumes nothing.
 use mathlib.Core.Path.{_≡_, refl, sym, ap, ap₂, _∙_, subst}
-use mathlib.Core.Bool.{Bool, true, false, _&&_}
+use mathlib.Core.Bool.{true, _&&_}
 use mathlib.Core.List.{List, [], _∷_, _++_, map, flatMap}
 use mathlib.Core.Option.{none}
 use Prim.Native.Nat.{ℕ, suc, _<_, _≤_}
@@ -10,6 +10,7 @@ use lib.Dec.{T, leb, eqb}
 use lib.IntN.{ℤ}
 use lib.ListN.{length, take, length-map}
 use mir.Facts.{and-yes, leb-yes, eqb-yes}
+use Rattle.cells.specs.BoolLaws.{same-test}
 use Rattle.cells.specs.Row.{Row, blankRow}
 use Rattle.rows.specs.Lists.{all}
 use Rattle.rows.specs.Rows.{ordered}
@@ -42,21 +43,6 @@ use Rattle.engine.specs.AnswerLaws.{report-accepted, rows-limit, few-row
 use Rattle.engine.specs.Asked.{passed-early, eight-yes}
 use Rattle.engine.specs.Readable.{few-cells, early}
 use Rattle.engine.specs.Seen.{rows-seen, numbers-seen, count-seen}
-
--- a test that holds, and one that does not
-pub is-true : (b : Bool) → T b → b ≡ true
-is-true true h = refl
-
-pub is-false : (b : Bool) → (T b → ⊥) → b ≡ false
-is-false true h = absurd (h tt)
-is-false false h = refl
-
--- two tests that follow from each other
-same-test : (a b : Bool) → (T a → T b) → (T b → T a) → a ≡ b
-same-test true true f g = refl
-same-test true false f g = absurd (f tt)
-same-test false true f g = absurd (g tt)
-same-test false false f g = refl
 
 module _ {bs : Bytes} {s : StoredQuery} (p : Passed bs s) (passed : refusal bs ≡ none) (eight : question8 (queryOf (reportOf (p .lines))) ≡ true)
     (more : List ℤ) where

@@ -10,6 +10,7 @@ use lib.IntN.{ℤ, pos}
 use lib.ListN.{length, take, replicate}
 use lib.Seq.{take-at}
 use mir.Facts.{and-yes, leb-yes}
+use Rattle.cells.specs.BoolLaws.{not-both}
 use Rattle.plan.specs.Questions.{question5}
 use Rattle.plan.specs.Steps.{zeroStep}
 use Rattle.plan.specs.StepWords.{listed}
@@ -28,13 +29,13 @@ use Rattle.runner.specs.LaidLaws.{laid-out}
 use Rattle.runner.specs.Over.{Runs}
 use Rattle.runner.specs.declared.state.Run.{Run}
 use Rattle.ready.specs.Ready.{turnedAway, readyFor}
-use Rattle.ready.specs.ReadyLaws.{not-both, away-or-ready, away-stops}
+use Rattle.ready.specs.ReadyLaws.{away-or-ready, away-stops}
 use Rattle.ready.specs.declared.prepared.Prepared.{Prepared}
 use Rattle.engine.specs.Answers.{Outcome, refused, answered, ReportAnswer, reportOutcome}
 use Rattle.engine.specs.Asked.{passed-early, five-yes}
 use Rattle.engine.specs.Bounds.{report-bounded}
 use Rattle.engine.specs.Calls.{Lent, noSets, question1Direct, question1, cleared, laidOut, ReportCall, reportAfter, reportCall}
-use Rattle.engine.specs.DirectCode.{text-passed, text-counted, text-readable, text-tables}
+use Rattle.engine.specs.DirectCode.{text-passed, text-counted, text-readable, text-tables, lent}
 use Rattle.engine.specs.Kept.{five-kept}
 use Rattle.engine.specs.Planning.{turnedDown, QueryAsked, plannedFor, resultAfter, Reported}
 use Rattle.engine.specs.Preparing.{enoughLent, refusedReply, Prepares, away, passed, Within, Ends, replied, byValue, Concludes}
@@ -87,9 +88,6 @@ module _ {bs : Bytes} {before after : List ℤ} {p : Prepared} where
         (query-asked (a .query) (text-readable x e) (text-five x e) after n enough w w′ v v′ long wide r h p z run end)
 
 -- ---- a call
-
-abbrev lent : List ℤ → List ℕ → List ℕ → Lent
-lent c w r = record { cells = c; work = w; result = r }
 
 -- what is answered, and lent memory and the list of steps afterwards, as a call
 abbrev pub asCall : Reply → Lent → List Step → ReportCall

@@ -7,23 +7,23 @@ use mathlib.Core.Option.{Option, none, some}
 use Prim.Native.Nat.{ℕ, suc, _+_, _-_, _<_, _≤_}
 use native.Mathlib.Decide.{decLt}
 use native.Mathlib.Omega.{arith}
-use lib.Dec.{T, leb, le→leb}
+use lib.Dec.{T, leb, le→leb, not-T}
 use lib.IntN.{ℤ}
 use lib.ListN.{length, getD, take, drop, replicate, length-map, length-drop, length-append, List·getD-map, List·getD-append}
 use lib.Seq.{ext-getD, getD-drop, getD-take, length-take-le}
 use mir.Facts.{and-yes, leb-yes}
 use borrow.Author.Tests.{lt-leb}
 use Rattle.cells.specs.Choice.{if_then_else_}
+use Rattle.cells.specs.BoolLaws.{is-true, is-false}
 use Rattle.cells.specs.Row.{Row}
 use Rattle.cells.specs.TableLaws.{getD-within}
 use Rattle.rows.specs.Lists.{all, range}
-use Rattle.rows.specs.ListLaws.{_isIn_, all-intro, all-elim, map-elim, map-intro, getD-isIn}
+use Rattle.rows.specs.ListLaws.{_isIn_, all-intro, all-elim, map-elim, map-intro, getD-isIn, length-range}
 use Rattle.rows.specs.Nullification.{Blanking, finished}
 use Rattle.rows.specs.Trees.{Database, Tree, leaf, rowsOf}
 use Rattle.plan.specs.Report.{Report, Query, queryOf, tableCount, tableNumbers, joinOrder}
 use Rattle.plan.specs.Nodes.{treeOf, treesOf, treeAt, lastTree}
 use Rattle.plan.specs.NodeLaws.{grown-length}
-use Rattle.plan.specs.BuiltLaws.{length-range}
 use Rattle.plan.specs.Sets.{Sets, setOf, blankingSets}
 use Rattle.plan.specs.Plan.{plannedJoins, planTrees, planTree, blankings}
 use Rattle.plan.specs.FoldWords.{blanking-proper}
@@ -60,7 +60,7 @@ use Rattle.engine.specs.Calls.{noSets, written}
 use Rattle.engine.specs.Kept.{here, eight-kept, nine-kept, query-kept, tables-kept, run-kept}
 use Rattle.engine.specs.Planning.{turnedDown, withCounts, handedOver, StepsRun, QueryRun, QueryAsked, plannedFor, resultAfter, Reported}
 use Rattle.engine.specs.PlanningLaws.{rows-counted}
-use Rattle.engine.specs.Reached.{is-true, is-false, pair-count, node-count, report-count, report-numbers}
+use Rattle.engine.specs.Reached.{pair-count, node-count, report-count, report-numbers}
 use Rattle.engine.specs.declared.answer.Answer.the-variants.{Rows, Refused}
 use Rattle.engine.specs.declared.planned.Planned.{Planned}
 
@@ -217,14 +217,14 @@ module _ {bs : Bytes} {s : StoredQuery} (p : Passed bs s) (passed : refusal bs �
       module _ (i : ℕ) (h : i < length (joinOrder q)) (o : 256 < length (rowsOf W (treeAt trees (n + i)))) where
         eleven-no : question11 report ≡ false
         unfolding question11 withinLimit results
-        eleven-no = is-false (all (λ (rows : List Row). leb (length rows) 256) found) (λ y.
+        eleven-no = is-false _ (not-T (all (λ (rows : List Row). leb (length rows) 256) found) (λ y.
             let x : T (leb (length (getD found i (rowsOf (database report) (leaf 0)))) 256) =
             all-elim (λ (rows : List Row). leb (length rows) 256) found y (getD found i (rowsOf (database report) (leaf 0)))
             (getD-isIn found i (rowsOf (database report) (leaf 0)) (omega (arith, found-count, h))) in
             let z : length (getD found i (rowsOf (database report) (leaf 0))) ≤ 256 = leb-yes x in
             let e : length (getD found i (rowsOf (database report) (leaf 0))) ≡ length (rowsOf W (treeAt trees (n + i))) =
             ap length (found-at i) ∙ sym (pair-rows i h) in
-            omega arith)
+            omega arith))
 
       -- every pair ran
       module _ (counts : List ℕ) (long : length counts ≡ 8) (few : (i : ℕ) → i < n - 1 → getD counts i 0 ≤ 256)

@@ -10,12 +10,12 @@ use native.Mathlib.Omega.{arith}
 use lib.Dec.{eqb, leb}
 use lib.IntN.{ℤ}
 use lib.ListN.{length, take, drop, getD, set, length-append}
-use lib.Seq.{sets, sets-eq, drop-drop}
+use lib.Seq.{sets, sets-eq}
 use borrow.Author.Tests.{eq-eqb, ne-eqb, le-leb, lt-leb, leb-true, leb-false}
 use Rattle.cells.specs.Choice.{if_then_else_}
 use Rattle.text.specs.Bytes.{Bytes, tab, lineFeed, split}
 use Rattle.text.specs.Numbers.{cell}
-use Rattle.text.specs.Parts.{until, partsAfter, fieldsFrom, field-here, fields-none, split-until, parts-more, parts-none}
+use Rattle.text.specs.Parts.{until, partsAfter, fieldsFrom, field-here, fields-none, parts-more, parts-none, line-shown}
 
 -- a cell in front of cells
 unfoldable pub inFront : Option ℤ → List ℤ → List ℤ
@@ -90,14 +90,9 @@ line-row l h = rw (eq-eqb (getD l 0 0) 68 h)
 -- ---- the text
 
 module _ (bs : Bytes) (at to : ℕ) (e : to ≡ at + until lineFeed (drop at bs)) where
-  shown : split lineFeed (drop at bs) ≡ take (to - at) (drop at bs) ∷ partsAfter lineFeed (drop to bs)
-  shown =
-      let d : to - at ≡ until lineFeed (drop at bs) = omega arith in
-      split-until lineFeed (drop at bs) ∙ rw (d, drop-drop (until lineFeed (drop at bs)) at bs, e)
-
   pub line-here : at ≤ length bs → lineParts bs at ≡ take (to - at) (drop at bs) ∷ lineParts bs (to + 1)
   unfolding lineParts
-  line-here h = rw (le-leb at (length bs) h) (shown ∙ go (leb (to + 1) (length bs)) refl)
+  line-here h = rw (le-leb at (length bs) h) (line-shown bs at to e ∙ go (leb (to + 1) (length bs)) refl)
     where
       go : (t : Bool) → leb (to + 1) (length bs) ≡ t
           → take (to - at) (drop at bs) ∷ partsAfter lineFeed (drop to bs)

@@ -2,7 +2,7 @@
 -- same bits are equal. Assumes nothing.
 use mathlib.Core.Path.{_≡_, refl, sym, ap, _∙_, subst}
 use mathlib.Core.Logic.{_≢_, _⊎_, ⊎-elim, _↔_}
-use mathlib.Core.Bool.{Bool, true, false, not, _&&_, _||_}
+use mathlib.Core.Bool.{false, not, _&&_, _||_}
 use mathlib.Core.List.{List, [], _∷_, _++_}
 use Prim.Native.Nat.{ℕ, zero, suc, _+_, _*_, _/_, _%_, _^_, _<_, _≤_, max, min}
 use native.Mathlib.Nat.{pow-suc, pow-succ', pow-le-pow-right, div-one, div-div-eq-div-mul, div-eq-of-lt}
@@ -10,29 +10,21 @@ use native.Mathlib.Omega.{arith}
 use lib.Dec.{T, eqb, eqb·zero-suc, eqb·suc-zero, eqb·suc-suc}
 use lib.Bits.{bitAnd, bitOr, or-shr, or-step, and-shr, and-step}
 use mir.Facts.{or-yes}
+use Rattle.cells.specs.BoolLaws.{same-test}
 use Rattle.rows.specs.Lists.{any, has}
 use Rattle.rows.specs.ListLaws.{_isIn_, here, has-intro, has-elim, append-left, append-right, append-elim, or-left, or-right}
 use Rattle.plan.specs.Bits.{hasBit}
 use Rattle.plan.specs.Steps.{bitsOf}
 
--- ---- tests
-
--- two tests that are passed together are the same test
-pub same-test : (a b : Bool) → (T a → T b) → (T b → T a) → a ≡ b
-same-test true true f g = refl
-same-test true false f g = absurd (f tt)
-same-test false true f g = absurd (g tt)
-same-test false false f g = refl
-
 -- ---- union, intersection
 
-or-low : (a b : ℕ) → bitOr a b % 2 ≡ max (a % 2) (b % 2)
+pub or-low : (a b : ℕ) → bitOr a b % 2 ≡ max (a % 2) (b % 2)
 or-low a b = rw (or-step a b) (omega arith)
 
 and-low : (a b : ℕ) → bitAnd a b % 2 ≡ min (a % 2) (b % 2)
 and-low a b = rw (and-step a b) (omega arith)
 
-odd-max : (x y : ℕ) → x < 2 → y < 2 → eqb (max x y) 1 ≡ (eqb x 1 || eqb y 1)
+pub odd-max : (x y : ℕ) → x < 2 → y < 2 → eqb (max x y) 1 ≡ (eqb x 1 || eqb y 1)
 odd-max zero zero h k = refl
 odd-max zero (suc zero) h k = refl
 odd-max (suc zero) zero h k = refl

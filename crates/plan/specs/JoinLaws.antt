@@ -17,14 +17,14 @@ use Rattle.cells.specs.declared.condition.Condition.{Condition}
 use Rattle.cells.specs.declared.condition.Side.the-variants.{Column, Constant}
 use Rattle.rows.specs.Lists.{range, keep, has}
 use Rattle.rows.specs.ListLaws.{_isIn_, here, there, decT, has-intro, has-elim}
-use Rattle.rows.specs.ListLaws.{keep-elim, keep-intro, range-intro, range-elim, flatMap-intro, flatMap-elim}
+use Rattle.rows.specs.ListLaws.{keep-elim, keep-intro, keep-append, range-intro, range-elim, flatMap-intro, flatMap-elim}
 use Rattle.plan.specs.Report.{Query, conditionNumbers, conditionAt, noCondition, namedBy}
 use Rattle.plan.specs.Stored.{queryIn}
 use Rattle.plan.specs.Bits.{hasBit}
 use Rattle.plan.specs.Steps.{bitsOf}
 use Rattle.plan.specs.BitLaws.{bit-elim, bit-intro, word-is, bits-append, has-one}
 use Rattle.plan.specs.Words.{onlyIf, unionTo, wordTables, tableBits, nameBits, namedBits, conditionBits}
-use Rattle.plan.specs.WordLaws.{or-elim, or-intro, only-elim, only-intro, union-elim, union-intro, keep-append}
+use Rattle.plan.specs.WordLaws.{or-elim, or-intro, only-elim, only-intro, union-elim, union-intro}
 use Rattle.plan.specs.declared.query.StoredQuery.{StoredQuery}
 
 -- the conditions that are kept, and how many

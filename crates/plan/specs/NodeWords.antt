@@ -13,12 +13,11 @@ use lib.Seq.{ext-getD, getD-set-same, getD-set-other, getD-append-seam, take-suc
 use mir.Facts.{ltb-yes, ltb-no}
 use Rattle.cells.specs.TableLaws.{getD-within}
 use Rattle.rows.specs.Lists.{range}
-use Rattle.rows.specs.ListLaws.{there, decT}
+use Rattle.rows.specs.ListLaws.{there, decT, length-range}
 use Rattle.plan.specs.Report.{Join, Pair, Query, tableCount, tableNumbers, joinPairs, joinOrder, orderOr}
 use Rattle.plan.specs.Nodes.{grown, tablesAt, tablesOfPair, nodesOf}
 use Rattle.plan.specs.Stored.{queryIn, joinIn, pairIn}
 use Rattle.plan.specs.NodeLaws.{grown-length}
-use Rattle.plan.specs.BuiltLaws.{length-range}
 use Rattle.plan.specs.Steps.{bitsOf}
 use Rattle.plan.specs.BitLaws.{bits-append}
 use Rattle.plan.specs.Words.{wordsTo, nodeWords, leafWords, nodesFrom}

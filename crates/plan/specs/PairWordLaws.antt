@@ -11,6 +11,7 @@ use lib.IntN.{ℤ}
 use lib.ListN.{length, getD, length-map, List·getD-map}
 use mir.Facts.{and-yes, yes-and, or-yes, eqb-yes, yes-eqb}
 use borrow.Author.Tests.{ne-eqb}
+use Rattle.cells.specs.BoolLaws.{same-test}
 use Rattle.cells.specs.Below.{at-below}
 use Rattle.cells.specs.declared.condition.Condition.{Condition}
 use Rattle.cells.specs.declared.condition.Side.{Side}
@@ -23,7 +24,7 @@ use Rattle.plan.specs.Sets.{Sets, setOf, blankingSets}
 use Rattle.plan.specs.Plan.{between, crosses, inEvery, usable, paired, fitsKind, usableAt, allIn, planned, plannedJoins}
 use Rattle.plan.specs.Bits.{hasBit}
 use Rattle.plan.specs.Steps.{bitsOf}
-use Rattle.plan.specs.BitLaws.{same-test, same-bits, has-bits, bit-elim, bit-intro, word-is, bits-none, some-bits}
+use Rattle.plan.specs.BitLaws.{same-bits, has-bits, bit-elim, bit-intro, word-is, bits-none, some-bits}
 use Rattle.plan.specs.Words.{everyBit, everyUnless, wordTables, setWords, nodeWords, namedBits, conditionBits, joinBits}
 use Rattle.plan.specs.WordLaws.{or-elim, or-intro, and-elim, and-intro, meet-elim, meet-intro}
 use Rattle.plan.specs.JoinLaws.{condition-elim, condition-intro, named-within}

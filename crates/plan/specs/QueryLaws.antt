@@ -12,7 +12,7 @@ use lib.ListN.{length, getD, length-map, List·getD-eq-default}
 use mir.Facts.{and-yes, yes-and}
 use Rattle.cells.specs.Condition.{namesOf}
 use Rattle.rows.specs.Lists.{range, all, any, has}
-use Rattle.rows.specs.ListLaws.{_isIn_, here, there, append-left, append-right, append-elim, all-elim, any-elim, any-intro, has-intro, flatMap-intro, Includes}
+use Rattle.rows.specs.ListLaws.{_isIn_, here, there, append-left, append-right, append-elim, all-elim, any-elim, any-intro, has-intro, flatMap-intro, Includes, length-range}
 use Rattle.rows.specs.Trees.{Database, Tree, leaf, join, tablesUnder}
 use Rattle.rows.specs.Shapes.{Lawful, BlanksLeft, BlanksRight, HasTable, Shaped, table-listed}
 use Rattle.rows.specs.Sets.{Applied, applied-table, applied-fits, Closed, Fits}
@@ -26,7 +26,7 @@ use Rattle.plan.specs.Plan.{crosses}
 use Rattle.plan.specs.Questions.{question5, question6, question7, question8, conditionFits, rightSides, namesRightSide, wellBuilt}
 use Rattle.plan.specs.NodeLaws.{Matched, noPair, nextPair}
 use Rattle.plan.specs.SetLaws.{Numbered, blanks-left, blanks-right}
-use Rattle.plan.specs.BuiltLaws.{length-range, each-node, tables-exist, of-last, last-has-every, sets-applied}
+use Rattle.plan.specs.BuiltLaws.{each-node, tables-exist, of-last, last-has-every, sets-applied}
 use Rattle.plan.specs.TiedLaws.{fits-inside, crosses-across, Tied, nodes-shaped}
 
 -- what the text's reading gives: the conditions of a join are conditions of the query, and no J line is a product

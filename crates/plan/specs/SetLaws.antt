@@ -3,17 +3,17 @@
 use mathlib.Core.Path.{_≡_, refl, sym, ap, _∙_, subst}
 use mathlib.Core.Logic.{_≢_, _⊎_, inl, inr, ⊎-elim, ⊎-map, by-cases, _↔_}
 use mathlib.Core.Bool.{Bool, true, false, not, _&&_, _||_}
-use mathlib.Core.List.{List, [], _∷_, _++_, map}
-use Prim.Native.Nat.{ℕ, zero, suc, _+_, _<_}
+use mathlib.Core.List.{List, [], _∷_, _++_}
+use Prim.Native.Nat.{ℕ, suc, _<_}
 use native.Mathlib.Decide.{ℕ-discrete}
 use native.Mathlib.Omega.{arith}
 use lib.Dec.{T, T-not, not-T}
-use lib.ListN.{length, getD}
+use lib.ListN.{length}
 use mir.Facts.{and-yes, yes-and, or-yes}
 use Rattle.cells.specs.Choice.{if_then_else_}
 use Rattle.cells.specs.Condition.{namesOf}
-use Rattle.rows.specs.Lists.{range, any, keep, has}
-use Rattle.rows.specs.ListLaws.{_isIn_, here, there, isIn-cast, decT, or-left, or-right, if-intro, if-elim, any-elim, any-intro, keep-elim, keep-intro, has-intro, has-elim, flatMap-intro, flatMap-elim, range-elim}
+use Rattle.rows.specs.Lists.{any, keep, has}
+use Rattle.rows.specs.ListLaws.{_isIn_, here, there, isIn-cast, decT, or-left, or-right, if-intro, if-elim, any-elim, any-intro, keep-elim, keep-intro, has-intro, has-elim, flatMap-intro, flatMap-elim, range-elim, getD-range}
 use Rattle.rows.specs.Trees.{Database, Tree, leaf, join}
 use Rattle.rows.specs.Shapes.{Lawful, BlanksLeft, BlanksRight, HasTable, Disjoint}
 use Rattle.rows.specs.Sets.{Takes, Applied, inLeft, inRight, own, fromRight, fromLeft, applied-table}
@@ -38,13 +38,6 @@ unfolding blanksRight
 blanks-right Inner = (λ h. h, λ h. h)
 blanks-right Outer = (λ h. h, λ h. h)
 blanks-right Product = (λ h. h, λ h. h)
-
--- an element of a list made for each of n numbers
-pub getD-range : {A : Type 0} (f : ℕ → A) (d : A) (s n i : ℕ) → i < n → getD (map f (range s n)) i d ≡ f (s + i)
-unfolding range
-getD-range f d s zero i h = absurd (omega arith)
-getD-range f d s (suc n) zero h = ap f (omega arith)
-getD-range f d s (suc n) (suc i) h = getD-range f d (suc s) n i (omega arith) ∙ ap f (omega arith)
 
 module _ (q : Query) where
   -- what a table takes at a join with conditions C besides its own set: one of C, or one of the set of a table of the other side

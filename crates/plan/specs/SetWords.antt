@@ -1,7 +1,7 @@
 -- Laws of the set rule over words: a join's step on words is the set rule's step on sets. Assumes nothing.
 use mathlib.Core.Path.{_≡_, refl, sym, ap, ap₂, _∙_, subst}
 use mathlib.Core.Logic.{_⊎_, inl, inr, ⊎-elim, by-cases}
-use mathlib.Core.Bool.{Bool, true, false, not, _&&_, _||_}
+use mathlib.Core.Bool.{Bool, true, false, not, _&&_, _||_, and-false}
 use mathlib.Core.List.{List, [], _∷_, map}
 use Prim.Native.Nat.{ℕ, zero, suc, _+_, _-_, _<_, _≤_}
 use native.Mathlib.Omega.{arith}
@@ -10,17 +10,17 @@ use lib.Dec.{T, ltb, not-T}
 use lib.ListN.{length, getD, length-map, List·getD-eq-default}
 use mir.Facts.{ltb-yes, ltb-no, yes-ltb}
 use Rattle.cells.specs.Choice.{if_then_else_}
+use Rattle.cells.specs.BoolLaws.{same-test}
 use Rattle.cells.specs.Condition.{namesOf}
 use Rattle.rows.specs.Lists.{range, any, has}
-use Rattle.rows.specs.ListLaws.{_isIn_, there, decT, if-elim, has-elim, keep-elim, keep-intro, range-intro, range-elim, flatMap-intro, flatMap-elim}
+use Rattle.rows.specs.ListLaws.{_isIn_, there, decT, if-elim, has-elim, keep-elim, keep-intro, range-intro, range-elim, flatMap-intro, flatMap-elim, length-range}
 use Rattle.plan.specs.Report.{Join, Query, tableCount, tableNumbers, conditionNumbers, conditionAt, namedBy}
 use Rattle.plan.specs.Nodes.{tablesAt}
 use Rattle.plan.specs.Sets.{Sets, setOf, blanksLeft, blanksRight, taken, setAfter, setsAfter, emptySets}
 use Rattle.plan.specs.SetLaws.{set-after, taken-elim, taken-intro, Gains}
-use Rattle.plan.specs.BuiltLaws.{length-range}
 use Rattle.plan.specs.Bits.{hasBit}
 use Rattle.plan.specs.Steps.{bitsOf}
-use Rattle.plan.specs.BitLaws.{has-bits, has-none, bit-elim, bit-intro, word-is, same-test}
+use Rattle.plan.specs.BitLaws.{has-bits, has-none, bit-elim, bit-intro, word-is}
 use Rattle.plan.specs.Words.{onlyIf, wordTables, wordsTo, setWords, nodeWords}
 use Rattle.plan.specs.Words.{conditionBits, joinBits, gatherBits, gainBits, takenWords, afterWords}
 use Rattle.plan.specs.WordLaws.{or-elim, or-intro, and-elim, and-intro, only-elim, only-intro, union-elim, union-intro, tab-at, tab-length}
@@ -215,10 +215,6 @@ module _ (q : Query) where
     absent : (ts : List ℕ) (i t : ℕ) → ts ≡ tablesAt nodes i → tableCount q ≤ t → has ts t ≡ false
     absent ts i t e h = same-test (has ts t) false
         (λ x. let l = below i t (subst (λ (l : List ℕ). t isIn l) e (has-elim ts t x)) in absurd (omega arith)) (λ x. absurd x)
-
-    and-false : (b : Bool) → (b && false) ≡ false
-    and-false true = refl
-    and-false false = refl
 
     of-none : (t : ℕ) → tableCount q ≤ t
         → bitOr (bitsOf (setOf S t))

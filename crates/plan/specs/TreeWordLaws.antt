@@ -11,9 +11,10 @@ use lib.ListN.{length, getD, set, take, drop, replicate, length-map, drop-of-len
 use lib.Seq.{drop-cons, length-take-le}
 use native.Mathlib.Numerals.{add-one}
 use mir.Facts.{ltb-yes, ltb-no, yes-ltb, eqb-yes, yes-eqb}
+use Rattle.cells.specs.BoolLaws.{same-test}
 use Rattle.rows.specs.Lists.{range, all, any, has}
 use Rattle.rows.specs.ListLaws.{_isIn_, here, there, decT, append-left, append-right}
-use Rattle.rows.specs.ListLaws.{append-elim, any-elim, any-intro, has-elim, has-intro, keep-elim, keep-intro}
+use Rattle.rows.specs.ListLaws.{append-elim, any-elim, any-intro, has-elim, has-intro, keep-elim, keep-intro, length-range}
 use Rattle.rows.specs.Trees.{Tree, leaf, join, tablesUnder}
 use Rattle.rows.specs.declared.kind.Kind.{Kind}
 use Rattle.rows.specs.declared.kind.Kind.the-variants.{Inner, Outer, Product}
@@ -22,10 +23,9 @@ use Rattle.plan.specs.Nodes.{grown, treeAt, treeOf, treesOf, joinTrees}
 use Rattle.plan.specs.Sets.{blanksLeft, blanksRight}
 use Rattle.plan.specs.Questions.{rightSides, namesRightSide}
 use Rattle.plan.specs.NodeLaws.{grown-length}
-use Rattle.plan.specs.BuiltLaws.{length-range}
 use Rattle.plan.specs.Bits.{hasBit}
 use Rattle.plan.specs.Steps.{bitsOf}
-use Rattle.plan.specs.BitLaws.{same-test, bit-elim, bit-intro, bits-append, bits-none, same-bits}
+use Rattle.plan.specs.BitLaws.{bit-elim, bit-intro, bits-append, bits-none, same-bits}
 use Rattle.plan.specs.Words.{wordTables, wordsTo, joinBits}
 use Rattle.plan.specs.WordLaws.{and-elim, and-intro, none-elim, range-next, tab-at, tab-length}
 use Rattle.plan.specs.SetWords.{tab-same, words-at}

@@ -16,13 +16,12 @@ use borrow.Author.Tests.{lt-ltb, le-ltb}
 use mir.Facts.{and-yes, yes-and, or-yes, yes-ltb, ltb-yes}
 use Rattle.cells.specs.Below.{at-below}
 use Rattle.cells.specs.Choice.{if_then_else_}
+use Rattle.cells.specs.BoolLaws.{same-test}
 use Rattle.rows.specs.Lists.{range, keep, has}
-use Rattle.rows.specs.ListLaws.{has-intro, has-elim, or-left, or-right, range-intro, range-elim}
+use Rattle.rows.specs.ListLaws.{has-intro, has-elim, or-left, or-right, range-intro, range-elim, keep-append, range-snoc, length-range, getD-range}
 use Rattle.plan.specs.Bits.{hasBit}
 use Rattle.plan.specs.Steps.{bitsOf}
-use Rattle.plan.specs.BitLaws.{has-or, has-and, has-none, bits-append, same-test}
-use Rattle.plan.specs.SetLaws.{getD-range}
-use Rattle.plan.specs.BuiltLaws.{length-range}
+use Rattle.plan.specs.BitLaws.{has-or, has-and, has-none, bits-append}
 use Rattle.plan.specs.Words.{onlyIf, unionTo, everyBit, meetTo, wordTables, tableBits}
 
 -- ---- the code's numbers
@@ -96,13 +95,8 @@ module _ (f : ℕ → ℕ) where
 
 -- ---- kept numbers
 
-range-suc : (s n : ℕ) → range s (suc n) ≡ range s n ++ ((s + n) ∷ [])
-unfolding range
-range-suc s zero = ap (λ (k : ℕ). k ∷ []) (omega arith)
-range-suc s (suc n) = ap (λ (l : List ℕ). s ∷ l) (range-suc (suc s) n ∙ ap (λ (k : ℕ). range (suc s) n ++ (k ∷ [])) (omega arith))
-
 pub range-next : (n : ℕ) → range 0 (n + 1) ≡ range 0 n ++ (n ∷ [])
-range-next n = rw (add-one n) (range-suc 0 n ∙ ap (λ (k : ℕ). range 0 n ++ (k ∷ [])) (omega arith))
+range-next n = rw (add-one n) (range-snoc 0 n ∙ ap (λ (k : ℕ). range 0 n ++ (k ∷ [])) (omega arith))
 
 -- whether a number is in a range, by its two bounds
 pub range-below : (s n k : ℕ) → k < s → has (range s n) k ≡ false
@@ -112,22 +106,6 @@ range-below s n k h = same-test (has (range s n) k) false (λ t. let (a, b) = ra
 pub range-has : (s n k : ℕ) → s ≤ k → has (range s n) k ≡ ltb k (s + n)
 range-has s n k h = same-test (has (range s n) k) (ltb k (s + n)) (λ t. yes-ltb (range-elim s n (has-elim (range s n) k t) .1))
     (λ t. has-intro (range-intro s n k h (ltb-yes t)))
-
-pub keep-append : {A : Type 0} (p : A → Bool) (l m : List A) → keep p (l ++ m) ≡ keep p l ++ keep p m
-unfolding keep
-keep-append p [] m = refl
-keep-append {A} p (x ∷ l) m = go (p x) (keep-append p l m)
-  where
-    go : (b : Bool) → keep p (l ++ m) ≡ keep p l ++ keep p m
-        → (if b then x ∷ keep p (l ++ m) else keep p (l ++ m)) ≡ (if b then x ∷ keep p l else keep p l) ++ keep p m
-    go true e = ap (λ (z : List A). x ∷ z) e
-    go false e = e
-
--- a test that is the same keeps the same
-pub keep-same : {A : Type 0} (p r : A → Bool) (l : List A) → ((x : A) → p x ≡ r x) → keep p l ≡ keep r l
-unfolding keep
-keep-same p r [] e = refl
-keep-same p r (x ∷ l) e = rw (e x, keep-same p r l e)
 
 keep-one : (p : ℕ → Bool) (n : ℕ) → bitsOf (keep p (n ∷ [])) ≡ onlyIf (p n) (2 ^ n)
 unfolding keep bitsOf onlyIf

@@ -3,15 +3,15 @@
 -- Assumes nothing.
 use mathlib.Core.Path.{_≡_, refl, sym, ap, ap₂, _∙_}
 use mathlib.Core.List.{List, [], _∷_, _++_, flatMap, append-assoc, append-nil}
-use mathlib.Core.Bool.{Bool, true, false}
+use mathlib.Core.Bool.{Bool}
 use Prim.Native.Nat.{ℕ, zero, suc, _+_, _*_, _≤_}
-use native.Mathlib.Nat.{add-zero, add-suc, suc-add, zero-add, mul-suc}
+use native.Mathlib.Nat.{zero-add, mul-suc}
 use native.Mathlib.Numerals.{add-one}
 use native.Mathlib.Omega.{arith}
 use lib.ListN.{length, take, getD}
 use lib.Seq.{take-suc}
-use Rattle.cells.specs.Choice.{if_then_else_}
 use Rattle.rows.specs.Lists.{range, keep}
+use Rattle.rows.specs.ListLaws.{keep-append, flatMap-append, range-snoc}
 use Rattle.text.specs.Bytes.{Bytes}
 use Rattle.print.specs.Output.{Written, written-then, written-as}
 
@@ -38,15 +38,9 @@ unfolding upTo
 upTo-same f g h zero = refl
 upTo-same f g h (suc n) = ap₂ (λ (a b : Bytes). a ++ b) (upTo-same f g h n) (h n)
 
-module _ {A B : Type 0} (g : A → List B) where
-  pub flatMap-append : (l m : List A) → flatMap g (l ++ m) ≡ flatMap g l ++ flatMap g m
-  unfolding flatMap
-  flatMap-append [] m = refl
-  flatMap-append (x ∷ l) m = rw (flatMap-append l m) (sym (append-assoc (g x) (flatMap g l) (flatMap g m)))
-
-  pub flatMap-one : (x : A) → flatMap g (x ∷ []) ≡ g x
-  unfolding flatMap
-  flatMap-one x = append-nil (g x)
+pub flatMap-one : {A B : Type 0} (g : A → List B) (x : A) → flatMap g (x ∷ []) ≡ g x
+unfolding flatMap
+flatMap-one g x = append-nil (g x)
 
 -- the bytes of each of the first elements of a list
 pub upTo-flatMap : {A : Type 0} (g : A → Bytes) (l : List A) (d : A) (n : ℕ) → n ≤ length l
@@ -59,27 +53,12 @@ upTo-flatMap g l d (suc n) h =
 
 -- ---- selections from a range
 
-pub range-last : (s n : ℕ) → range s (suc n) ≡ range s n ++ ((s + n) ∷ [])
-unfolding range
-range-last s zero = rw (add-zero s)
-range-last s (suc n) = ap (λ (l : List ℕ). s ∷ l) (range-last (suc s) n ∙ rw (suc-add s n, add-suc s n))
-
-pub keep-append : {A : Type 0} (p : A → Bool) (l m : List A) → keep p (l ++ m) ≡ keep p l ++ keep p m
-unfolding keep
-keep-append p [] m = refl
-keep-append {A} p (x ∷ l) m = go (p x) (keep-append p l m)
-  where
-    go : (b : Bool) → keep p (l ++ m) ≡ keep p l ++ keep p m
-        → (if b then x ∷ keep p (l ++ m) else keep p (l ++ m)) ≡ (if b then x ∷ keep p l else keep p l) ++ keep p m
-    go true e = ap (λ (z : List A). x ∷ z) e
-    go false e = e
-
 -- the bytes of the numbers below a bound of which p is true
 pub upTo-keep : (p : ℕ → Bool) (g : ℕ → Bytes) (n : ℕ) → upTo (λ k. flatMap g (keep p (k ∷ []))) n ≡ flatMap g (keep p (range 0 n))
 unfolding upTo flatMap range keep
 upTo-keep p g zero = refl
 upTo-keep p g (suc n) =
-    let e : range 0 (suc n) ≡ range 0 n ++ (n ∷ []) = range-last 0 n ∙ ap (λ (k : ℕ). range 0 n ++ (k ∷ [])) (zero-add n) in
+    let e : range 0 (suc n) ≡ range 0 n ++ (n ∷ []) = range-snoc 0 n ∙ ap (λ (k : ℕ). range 0 n ++ (k ∷ [])) (zero-add n) in
     ap (λ (b : Bytes). b ++ flatMap g (keep p (n ∷ []))) (upTo-keep p g n)
     ∙ sym (flatMap-append g (keep p (range 0 n)) (keep p (n ∷ [])))
     ∙ ap (flatMap g) (sym (keep-append p (range 0 n) (n ∷ [])))

@@ -1,7 +1,7 @@
 -- The print of every answer fits the room of the output: 8 tables, 16 steps and 256 rows of 8 entries. Assumes nothing.
 use mathlib.Core.Bool.{Bool, true, false}
 use mathlib.Core.List.{List, [], _∷_, _++_, map, flatMap}
-use mathlib.Core.Path.{_≡_, refl, ap}
+use mathlib.Core.Path.{_≡_, refl}
 use Prim.Native.Nat.{ℕ, zero, suc, _+_, _*_, _/_, _%_, _≤_, _<_}
 use native.Mathlib.Nat.{mul-suc}
 use native.Mathlib.Omega.{arith}
@@ -9,8 +9,8 @@ use lib.Dec.{leb, eqb}
 use lib.ListN.{length, take, length-append, length-take}
 use Rattle.cells.specs.Choice.{if_then_else_}
 use Rattle.cells.specs.Row.{Row, blankRow}
-use Rattle.rows.specs.Lists.{range, keep}
-use Rattle.rows.specs.ListLaws.{_isIn_, here, there}
+use Rattle.rows.specs.Lists.{range}
+use Rattle.rows.specs.ListLaws.{_isIn_, here, there, keep-fewer, length-range}
 use Rattle.plan.specs.declared.step.Step.{Step}
 use Rattle.text.specs.Bytes.{Bytes, bytes, tab, lineFeed}
 use Rattle.text.specs.Print.{digitsOf, printNumber, printFields, printEntry, hasBit, bitNumbers, kindLetter, printSets, printStep, printRow, printRefusal}
@@ -30,20 +30,6 @@ flatMap-room g room (x ∷ l) h =
     let i = flatMap-room g room l (λ y m. h y (there m)) in
     let e : room * suc (length l) ≡ room * length l + room = mul-suc room (length l) in
     omega (arith, i, e, h x (here refl), length-append (g x) (flatMap g l))
-
-pub keep-room : {A : Type 0} (p : A → Bool) (l : List A) → length (keep p l) ≤ length l
-unfolding keep
-keep-room p [] = omega arith
-keep-room p (x ∷ l) = go (p x) (keep-room p l)
-  where
-    go : (b : Bool) → length (keep p l) ≤ length l → length (if b then x ∷ keep p l else keep p l) ≤ suc (length l)
-    go true h = omega arith
-    go false h = omega arith
-
-pub range-length : (s n : ℕ) → length (range s n) ≡ n
-unfolding range
-range-length s zero = refl
-range-length s (suc n) = ap suc (range-length (suc s) n)
 
 -- ---- fields
 
@@ -79,8 +65,8 @@ bits-room m =
     omega (
       arith,
       flatMap-room numberField fieldRoom (bitNumbers m) (λ n _. number-room n),
-      keep-room (hasBit m) (range 0 64),
-      range-length 0 64,
+      keep-fewer (hasBit m) (range 0 64),
+      length-range 0 64,
     )
 
 -- ---- lines

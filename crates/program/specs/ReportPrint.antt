@@ -1,6 +1,6 @@
 -- The print of the report, by the answer of the call. Assumes nothing.
 use mathlib.Core.Path.{_≡_, refl, sym, ap, ap₂, _∙_, subst}
-use mathlib.Core.Bool.{Bool, true, false, _&&_}
+use mathlib.Core.Bool.{Bool, true, false, and-true}
 use mathlib.Core.List.{List, [], _∷_, _++_, flatMap}
 use Prim.Native.Nat.{ℕ, _≤_}
 use native.Mathlib.Omega.{arith}
@@ -35,11 +35,7 @@ module _ (text : Bytes) (m : Lent) where
   -- question 1 of a call whose step list is handed over by value
   first : question1 m none-yet ≡ question1Direct m
   unfolding question1
-  first = go (question1Direct m)
-    where
-      go : (b : Bool) → (b && true) ≡ b
-      go true = refl
-      go false = refl
+  first = and-true (question1Direct m)
 
   -- the call by the answer to question 1
   abbrev by : Bool → ReportCall

@@ -11,11 +11,12 @@ use lib.Dec.{T, T-not, eqb, ltb, not-T}
 use lib.ListN.{length}
 use borrow.Author.Tests.{lt-ltb, le-ltb, eq-eqb, ne-eqb}
 use mir.Facts.{and-yes, yes-and, or-yes, ltb-yes, yes-ltb, eqb-yes, yes-eqb}
+use Rattle.cells.specs.BoolLaws.{same-test}
 use Rattle.rows.specs.Lists.{all, any, has}
 use Rattle.rows.specs.ListLaws.{_isIn_, here, there, or-left, or-right, has-intro, has-elim, all-intro, all-elim, keep-intro, keep-elim}
 use Rattle.plan.specs.Report.{Pair}
 use Rattle.plan.specs.Bits.{hasBit}
-use Rattle.plan.specs.BitLaws.{bit-intro, bit-elim, same-test}
+use Rattle.plan.specs.BitLaws.{bit-intro, bit-elim}
 use Rattle.plan.specs.Words.{wordTables, tableBits}
 use Rattle.plan.specs.WordLaws.{or-elim, or-intro, none-elim}
 use Rattle.plan.specs.Questions.{lowerSides, sidesOf, noneTwice, wellBuilt}

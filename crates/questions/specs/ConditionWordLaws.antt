@@ -1,7 +1,7 @@
 -- Laws of conditions against words: over the words of the J lines' nodes they are questions 6 and 7. Assumes nothing.
 use mathlib.Core.Path.{_≡_, refl, sym, ap, ap₂, _∙_}
 use mathlib.Core.Logic.{_≢_}
-use mathlib.Core.Bool.{Bool, true, false, _&&_}
+use mathlib.Core.Bool.{Bool, true, false, _&&_, and-true, and-false}
 use mathlib.Core.List.{List, [], _∷_, _++_}
 use Prim.Native.Nat.{ℕ, _+_, _-_, _<_, _≤_}
 use native.Mathlib.Omega.{arith}
@@ -34,14 +34,6 @@ use Rattle.questions.specs.Kept.{enough-room, all-same, any-same, kept-d
 use Rattle.questions.specs.ConditionWords.{columnUnder, sideUnder, conditionUnder, numberFits, joinFits, oneInEach, sideCrosses, numberCrosses, joinCrosses}
 
 -- ---- by the code's tests
-
-and-false : (b : Bool) → (b && false) ≡ false
-and-false true = refl
-and-false false = refl
-
-and-true : (b : Bool) → (b && true) ≡ b
-and-true true = refl
-and-true false = refl
 
 -- a table that there is not has no columns
 pub no-table : (q : StoredQuery) (w t c : ℕ) → q .«table_count» ≤ t → columnUnder (queryIn q) w t c ≡ false

@@ -6,12 +6,13 @@ use mathlib.Core.List.{List, [], _∷_, _++_, map}
 use Prim.Native.Nat.{ℕ, zero, suc, _+_, _-_, _<_, _≤_}
 use native.Mathlib.Nat.{zero-add}
 use native.Mathlib.Omega.{arith}
-use lib.Dec.{T, eqb, ltb}
+use lib.Dec.{eqb, ltb}
 use lib.IntN.{ℤ}
 use lib.ListN.{length, drop, getD, replicate, length-map, length-replicate, List·getD-eq-default}
 use lib.Seq.{sets}
 use borrow.Author.Tests.{le-ltb, ltb-true, ltb-false}
 use Rattle.cells.specs.Choice.{if_then_else_}
+use Rattle.cells.specs.BoolLaws.{is-true}
 use Rattle.cells.specs.Cell.{blankCell}
 use Rattle.cells.specs.Condition.{ownCell, cellsIn}
 use Rattle.cells.specs.declared.condition.Layout.{Layout}
@@ -41,10 +42,6 @@ zeros (suc n) (suc i) = zeros n i
 sets-beyond : (n : ℕ) (vs : List ℕ) (t : ℕ) → length vs ≤ n → length vs ≤ t → getD (sets (none n) 0 vs) t 0 ≡ 0
 sets-beyond n vs t h k = sets-behind (none n) vs t 0 (rw length-replicate h) k ∙ zeros n t
 
-true-of : (b : Bool) → T b → b ≡ true
-true-of true h = refl
-true-of false h = absurd h
-
 module _ (ls : List Line) (early : (tablesOf ls) .0 ≡ []) (fits : length ((tablesOf ls) .1) ≤ 8)
     (few : cellsInTables ((tablesOf ls) .1) ≤ 4096) (even : question4 (reportOf ls) ≡ true) where
   abbrev ts : List Table
@@ -63,7 +60,7 @@ module _ (ls : List Line) (early : (tablesOf ls) .0 ≡ []) (fits : length ((tab
 
   wide : (t : ℕ) → t < length ts → Wide (getD ts t noTable .columns) (getD ts t noTable .rows)
   unfolding question4 reportOf
-  wide t h = true-of _ (all-elim (λ (x : Table). all (λ (zs : List ℤ). eqb (length zs) (x .columns)) (x .rows)) ts (rw even tt)
+  wide t h = is-true _ (all-elim (λ (x : Table). all (λ (zs : List ℤ). eqb (length zs) (x .columns)) (x .rows)) ts (rw even tt)
       (getD ts t noTable) (getD-isIn ts t noTable h))
 
   pub cells-whole : (more : List ℤ) (t row column : ℕ)

@@ -1,7 +1,7 @@
 -- What the layout and the run of an accepted text hold is the report's cells: document 01, "a table is looked at through its row
 -- count, column count and own cells". Assumes nothing.
 use mathlib.Core.Path.{_≡_, refl, sym, ap, _∙_}
-use mathlib.Core.Bool.{Bool, true, false, _&&_, and-false}
+use mathlib.Core.Bool.{Bool, true, false, and-false}
 use mathlib.Core.List.{List, [], _∷_, _++_, append-assoc, map}
 use Prim.Native.Nat.{ℕ, zero, suc, _+_, _*_, _-_, _<_, _≤_}
 use native.Mathlib.Nat.{add-assoc, zero-mul, suc-mul, zero-add}
@@ -12,6 +12,7 @@ use lib.ListN.{length, drop, getD, set, replicate, length-append, length-map, Li
 use lib.Seq.{sets, drop-append-seam, getD-append-add, getD-take}
 use borrow.Author.Tests.{lt-ltb, le-ltb, ltb-true, ltb-false, eqb-true}
 use Rattle.cells.specs.Choice.{if_then_else_}
+use Rattle.cells.specs.BoolLaws.{both-left, both-right}
 use Rattle.cells.specs.Cell.{blankCell}
 use Rattle.cells.specs.Condition.{ownCell, cellsIn}
 use Rattle.cells.specs.declared.condition.Layout.{Layout}
@@ -32,14 +33,6 @@ use Rattle.reader.specs.declared.tables.Tables.{Tables}
 
 abbrev pub Wide : ℕ → List (List ℤ) → Type 0
 Wide w rows = all (λ (zs : List ℤ). eqb (length zs) w) rows ≡ true
-
-both-left : (a b : Bool) → (a && b) ≡ true → a ≡ true
-both-left true b e = refl
-both-left false b e = e
-
-both-right : (a b : Bool) → (a && b) ≡ true → b ≡ true
-both-right true b e = e
-both-right false b e = absurd (let y : _≡_ {A = ℕ} 0 1 = cc in omega arith)
 
 wide-first : (w : ℕ) (zs : List ℤ) (rows : List (List ℤ)) → Wide w (zs ∷ rows) → length zs ≡ w
 unfolding all
@@ -89,7 +82,7 @@ own-cell w rows more row column h = go (ltb row (length rows)) refl (ltb column 
 
 -- ---- a table's own cells begin at its offset
 
-flat-length : (rows : List (List ℤ)) → length (flatRows rows) ≡ cellsInRows rows
+pub flat-length : (rows : List (List ℤ)) → length (flatRows rows) ≡ cellsInRows rows
 unfolding flatRows cellsInRows
 flat-length [] = refl
 flat-length (zs ∷ rows) = length-append zs (flatRows rows) ∙ ap (λ (n : ℕ). length zs + n) (flat-length rows)

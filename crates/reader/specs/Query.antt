@@ -9,6 +9,7 @@ use lib.Dec.{leb, eqb}
 use lib.ListN.{length, take, drop, getD, set, replicate, length-set, length-map}
 use lib.Seq.{sets, sets-eq, getD-append-add, getD-drop, set-out, take-append-seam, take-all, length-sets, length-take-le}
 use borrow.Author.Tests.{le-leb, lt-leb, leb-true, leb-false, ne-eqb}
+use Rattle.cells.specs.BoolLaws.{both-right}
 use Rattle.cells.specs.declared.condition.Condition.{Condition}
 use Rattle.rows.specs.Lists.{all}
 use Rattle.plan.specs.Report.{Table, Join, Pair, Query, Report, queryOf}
@@ -244,10 +245,6 @@ query-kept ls t j d =
 
 -- ---- questions 3 and 4
 
-and-right : (a b : Bool) → (a && b) ≡ true → b ≡ true
-and-right true b e = e
-and-right false b e = absurd (let y : _≡_ {A = ℕ} 0 1 = cc in omega arith)
-
 -- where every line stands in its place, no D line comes before the first T line
 pub no-early-row : (p : ℕ) (ls : List Line) → (p ≡ 1 → ⊥) → placed p ls ≡ true → (tablesOf ls) .0 ≡ []
 unfolding placed mayFollow partOf tablesOf
@@ -255,8 +252,8 @@ no-early-row p [] n h = refl
 no-early-row p (tableLine c ∷ ls) n h = refl
 no-early-row p (rowLine zs ∷ ls) n h =
     absurd (let z : false ≡ true = rw (ne-eqb p 1 n) at h in let y : _≡_ {A = ℕ} 0 1 = cc in omega arith)
-no-early-row p (joinLine k a b ∷ ls) n h = no-early-row 2 ls (λ e. omega arith) (and-right (leb p 2) (placed 2 ls) h)
-no-early-row p (conditionLine c ∷ ls) n h = no-early-row 2 ls (λ e. omega arith) (and-right (eqb p 2) (placed 2 ls) h)
+no-early-row p (joinLine k a b ∷ ls) n h = no-early-row 2 ls (λ e. omega arith) (both-right (leb p 2) (placed 2 ls) h)
+no-early-row p (conditionLine c ∷ ls) n h = no-early-row 2 ls (λ e. omega arith) (both-right (eqb p 2) (placed 2 ls) h)
 no-early-row p (orderLine a b ∷ ls) n h = no-early-row 3 ls (λ e. omega arith) h
 
 regroup : (a b c d : Bool) → (a && (b && (c && d))) ≡ (((a && b) && c) && d)

@@ -4,10 +4,10 @@ use mathlib.Core.Logic.{_⊎_, inl, inr}
 use mathlib.Core.Bool.{Bool, true, false, _&&_}
 use mathlib.Core.List.{List}
 use Prim.Native.Nat.{ℕ, _≤_}
-use native.Mathlib.Omega.{arith}
 use lib.Dec.{T, leb}
 use lib.ListN.{length, replicate}
 use mir.Facts.{and-yes}
+use Rattle.cells.specs.BoolLaws.{not-both}
 use Rattle.plan.specs.Report.{joinOrder}
 use Rattle.plan.specs.Sets.{blankingSets}
 use Rattle.plan.specs.Steps.{stepsOf}
@@ -22,9 +22,6 @@ use Rattle.runner.specs.State.{startRun}
 use Rattle.runner.specs.declared.state.Run.{Run}
 use Rattle.ready.specs.Ready.{turnedAway, readyFor, QueryPlanned}
 use Rattle.ready.specs.declared.prepared.Prepared.{Prepared}
-
-pub not-both : {b : Bool} → b ≡ true → b ≡ false → ⊥
-not-both e f = let z : _≡_ {A = ℕ} 0 1 = cc in omega arith
 
 module _ (q : StoredQuery) {b : Bool} (e : b ≡ question8 (queryIn q)) {x : Prepared} where
   pub eight-away : b ≡ false → x ≡ turnedAway q 8 → QueryPlanned q x

@@ -13,6 +13,7 @@ use lib.ListN.{length, drop, getD, drop-of-length-le}
 use lib.Seq.{drop-cons}
 use borrow.Author.Tests.{le-leb, lt-leb, lt-ltb, le-ltb, eq-eqb, ne-eqb, ltb-true, ltb-false, eqb-true, leb-true, leb-false}
 use Rattle.cells.specs.Choice.{if_then_else_}
+use Rattle.cells.specs.BoolLaws.{both-left, both-right}
 use Rattle.rows.specs.Lists.{all}
 use Rattle.text.specs.Bytes.{Bytes}
 use Rattle.text.specs.Numbers.{digit, decimal, valueOf, natural, small}
@@ -46,14 +47,6 @@ numberFrom limit [] = none
 numberFrom limit (b ∷ f) = if eqb b 48 then afterZero f else digitsFrom limit 0 (b ∷ f)
 
 -- ---- the same number
-
-and-true-left : (a b : Bool) → (a && b) ≡ true → a ≡ true
-and-true-left true b e = refl
-and-true-left false b e = e
-
-and-true-right : (a b : Bool) → (a && b) ≡ true → b ≡ true
-and-true-right true b e = e
-and-true-right false b e = absurd (let z : _≡_ {A = ℕ} 0 1 = cc in omega arith)
 
 -- a value grows with each digit
 grows : (v : ℕ) (f : Bytes) → v ≤ foldl (λ (v b : ℕ). v * 10 + (b - 48)) v f
@@ -192,15 +185,15 @@ unfolding all digit
 value-within m n v [] e h k = le-trans k (nines-least m n)
 value-within m zero v (b ∷ f) e h k = absurd (omega arith)
 value-within m (suc n) v (b ∷ f) e h k =
-    let g : leb b 57 ≡ true = and-true-right (leb 48 b) (leb b 57) (and-true-left (leb 48 b && leb b 57) (all digit f) e) in
+    let g : leb b 57 ≡ true = both-right (leb 48 b) (leb b 57) (both-left (leb 48 b && leb b 57) (all digit f) e) in
     let i : b ≤ 57 = leb-true b 57 g in
-    value-within (m * 10 + 9) n (next v b) f (and-true-right (leb 48 b && leb b 57) (all digit f) e) (omega arith) (omega arith)
+    value-within (m * 10 + 9) n (next v b) f (both-right (leb 48 b && leb b 57) (all digit f) e) (omega arith) (omega arith)
 
 decimal-digits : (f : Bytes) → decimal f ≡ true → all digit f ≡ true
 unfolding decimal all
 decimal-digits [] e = refl
 decimal-digits (b ∷ []) e = and-true (digit b) ∙ e
-decimal-digits (b ∷ c ∷ f) e = and-true-right (not (eqb b 48)) (all digit (b ∷ c ∷ f)) e
+decimal-digits (b ∷ c ∷ f) e = both-right (not (eqb b 48)) (all digit (b ∷ c ∷ f)) e
 
 pub small-short : (f : Bytes) → length f ≤ 4 → atMost 9999 (natural f) ≡ small f
 unfolding small natural valueOf

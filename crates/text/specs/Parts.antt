@@ -132,7 +132,7 @@ closed-open [] h = absurd (omega arith)
 closed-open (b ∷ p) h = refl
 
 module _ (bs : Bytes) (at to : ℕ) (e : to ≡ at + until lineFeed (drop at bs)) where
-  line-shown : split lineFeed (drop at bs) ≡ take (to - at) (drop at bs) ∷ partsAfter lineFeed (drop to bs)
+  pub line-shown : split lineFeed (drop at bs) ≡ take (to - at) (drop at bs) ∷ partsAfter lineFeed (drop to bs)
   line-shown =
       let d : to - at ≡ until lineFeed (drop at bs) = omega arith in
       split-until lineFeed (drop at bs) ∙ rw (d, drop-drop (until lineFeed (drop at bs)) at bs, e)

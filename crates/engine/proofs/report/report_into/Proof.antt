@@ -42,6 +42,7 @@ use denote.Triple.Entry.{Args, Vals, onEntry}
 use denote.Triple.Spec.{tripleOf}
 use denote.Triple.Walked.{says, Stays, gave-slice, stay-none-slice, walkOf, goes-gave-slice, goes-none-slice, ends-at}
 use denote.Exit.{yes}
+use Rattle.cells.specs.BoolLaws.{is-false}
 use Rattle.cells.proofs.Walks.{by-walk, framed, known, answers}
 use Rattle.plan.specs.declared.query.StoredQuery.{StoredQuery}
 use Rattle.plan.specs.declared.step.Step.{Step}
@@ -57,7 +58,7 @@ use Rattle.runner.specs.Over.{Runs}
 use Rattle.runner.specs.declared.state.Run.{Run}
 use Rattle.runner.proofs.state.Run as R
 use Rattle.runner.proofs.state.Run.Laws as R′
-use Rattle.runner.proofs.While.{guards, fails}
+use Rattle.runner.proofs.While.{guards}
 use Rattle.runner.proofs.list.put_plan as put
 use Rattle.runner.proofs.list.put_plan.Symbol as put-def
 use Rattle.runner.proofs.list.put_plan.Met as put-thm
@@ -158,10 +159,7 @@ QueryIs q = Is Q.the-row q (query-val q ∷ [])
 abbrev PlanIs : StepList → Type 0
 PlanIs s = Is L.the-row s (plan-val s ∷ [])
 
--- a test that is negated: from what each arm knows
-not-holds : (t : Bool) → Holds (not t) → t ≡ false
-not-holds t z = fails t z
-
+-- a negated test that is not passed
 not-fails : (t : Bool) → Holds (not (not t)) → t ≡ true
 not-fails true z = refl
 not-fails false z = absurd z
@@ -553,7 +551,7 @@ module _ {M : Type 1} (𝓤 : URA M) (H : Heap 𝓤) (A : Atoms 𝓤) (W : Given
         returns-within ! Post refl (look ! 77 refl) $
         forget ! 43 refl $ forget ! 45 refl $ forget ! 47 refl $ forget ! 49 refl $ forget ! 51 refl $ forget ! 67 refl $ forget ! 69 refl $ forget ! 71 refl $ forget ! 73 refl $ forget ! 75 refl $ forget ! 77 refl $
         move ! (77 ∷ 78 ∷ []) $ free1 ! $ move ! (75 ∷ 76 ∷ []) $ free1 ! $ move ! (73 ∷ 74 ∷ []) $ free1 ! $ move ! (71 ∷ 72 ∷ []) $ free1 ! $ move ! (69 ∷ 70 ∷ []) $ free1 ! $ move ! (67 ∷ 68 ∷ []) $ free1 ! $ move ! (65 ∷ 66 ∷ []) $ free1 ! $ move ! (63 ∷ 64 ∷ []) $ free1 ! $ move ! (61 ∷ 62 ∷ []) $ free1 ! $ move ! (59 ∷ 60 ∷ []) $ free1 ! $ move ! (57 ∷ 58 ∷ []) $ free1 ! $ move ! (55 ∷ 56 ∷ []) $ free1 ! $ move ! (53 ∷ 54 ∷ []) $ free1 ! $ move ! (51 ∷ 52 ∷ []) $ free1 ! $ move ! (49 ∷ 50 ∷ []) $ free1 ! $ move ! (47 ∷ 48 ∷ []) $ free1 ! $ move ! (45 ∷ 46 ∷ []) $ free1 ! $ move ! (43 ∷ 44 ∷ []) $ free1 ! $ move ! (41 ∷ 42 ∷ []) $ free1 ! $ move ! (39 ∷ 40 ∷ []) $ free1 ! $ move ! (37 ∷ 38 ∷ []) $ free1 ! $ move ! (35 ∷ 36 ∷ []) $ free1 ! $ move ! (33 ∷ 34 ∷ []) $ free1 ! $ move ! (31 ∷ 32 ∷ []) $ free1 ! $ move ! (29 ∷ 30 ∷ []) $ free1 ! $ move ! (27 ∷ 28 ∷ []) $ free1 ! $ move ! (25 ∷ 26 ∷ []) $ free1 ! $ move ! (23 ∷ 24 ∷ []) $ free1 ! $ move ! (21 ∷ 22 ∷ []) $ free1 ! $ move ! (19 ∷ 20 ∷ []) $ free1 ! $ move ! (17 ∷ 18 ∷ []) $ free1 ! $ move ! (15 ∷ 16 ∷ []) $ free1 ! $ move ! (13 ∷ 14 ∷ []) $ free1 ! $ move ! (11 ∷ 12 ∷ []) $ free1 ! $ move ! (9 ∷ 10 ∷ []) $ free1 ! $ move ! (7 ∷ 8 ∷ []) $ free1 ! $ move ! (5 ∷ 6 ∷ []) $ free1 ! $ free0 ! $
-        by ! (untouched x u′ x-is (not-holds B little) z))))
+        by ! (untouched x u′ x-is (is-false B little) z))))
         (λ enough.
         -- `prepare`
         assigns ! (addr ! (from ! (fld ! refl (hop ! (look-in ! 73 (sub ! 0 refl (whole !))) (stop !))))) (from ! (stop !)) (init ! 41 refl (tt, tt)) $
