@@ -31,7 +31,7 @@ pub fn rows_of(a: Answer) -> u64
 }
 
 // One number, at a place; and the place behind it.
-pub fn put(run: &mut [u64], at: usize, n: u64) -> usize
+fn put(run: &mut [u64], at: usize, n: u64) -> usize
     requires { ⌜ at + 1 ≤ length (now run) ⌝ }
     ensures { λ r. ⌜ Written (now (run .entry)) at (n ∷ []) 1 (now (run .exit)) r ⌝ }
 {

@@ -21,7 +21,7 @@ pub fn member(s: u64, k: u64) -> bool
 }
 
 // The set of one number.
-pub fn one(k: u64) -> u64
+pub(crate) fn one(k: u64) -> u64
     requires { ⌜ k < 64 ⌝ }
     ensures { λ r. ⌜ r ≡ 2 ^ k ⌝ }
 {

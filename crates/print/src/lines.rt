@@ -43,7 +43,7 @@ pub(crate) fn write_steps(out: &mut [u8], at: usize, steps: [Step; STEPS], n: us
 }
 
 // The R lines of so many rows of n entries, which stand one after the other.
-pub fn write_rows(out: &mut [u8], at: usize, result: &[u16], rows: usize, n: usize) -> usize
+pub(crate) fn write_rows(out: &mut [u8], at: usize, result: &[u16], rows: usize, n: usize) -> usize
     requires { ⌜ (rows ≤ 256) × (n ≤ 8) × (rows * n ≤ length (now result)) × (at + rowRoom * rows ≤ length (now out)) ⌝ }
     ensures { λ r. ⌜ Written (now (out .entry)) at (flatMap printRow (rowsIn n rows (now (result .entry)))) (rowRoom * rows) (now (out .exit)) r ⌝ }
 {

@@ -10,7 +10,7 @@ ghost use Rattle.plan.specs.Words.{nodeWords};
 ghost use Rattle.questions.specs.TreeLines.{LinesOf};
 
 // The query with its tables and J lines alone: the counts of conditions and of P lines may still exceed their room.
-pub fn lines(q: StoredQuery) -> StoredQuery
+pub(crate) fn lines(q: StoredQuery) -> StoredQuery
     requires { ⌜ (q .«table_count» ≤ 8) × (q .«join_count» ≤ 7) ⌝ }
     ensures { λ r. ⌜ LinesOf q r ⌝ }
 {
