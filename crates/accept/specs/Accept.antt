@@ -15,7 +15,7 @@ use Rattle.plan.specs.declared.query.StoredQuery.{StoredQuery}
 use Rattle.text.specs.Bytes.{Bytes}
 use Rattle.text.specs.Lines.{Line}
 use Rattle.text.specs.Reading.{textLines, reportOf, readReport}
-use Rattle.text.specs.Questions.{question3, question4}
+use Rattle.plan.specs.TableQuestions.{question3, question4}
 use Rattle.reader.specs.Query.{storedOf, done}
 use Rattle.reader.specs.Outcome.{runAfter}
 use Rattle.reader.specs.declared.read.Answer.{Answer}
@@ -57,7 +57,7 @@ pub record Passed (bs : Bytes) (s : StoredQuery) : Type 0 where
   pub fits : question3 (reportOf lines) ≡ true
   pub even : question4 (reportOf lines) ≡ true
   pub joins : s .«join_count» ≤ 7
-  pub conditions : s .«condition_count» ≤ 32
+  pub conditions : s .«condition_count» ≤ 64
 
 -- what a call answers, with the run of cells before and after it
 pub record Accepts (bs : Bytes) (before after : List ℤ) (a : Answer) : Type 0 where

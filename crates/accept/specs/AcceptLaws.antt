@@ -4,6 +4,7 @@ use mathlib.Core.Bool.{Bool, true, false, _&&_}
 use mathlib.Core.List.{List, [], _∷_}
 use mathlib.Core.Option.{Option, none, some}
 use Prim.Native.Nat.{ℕ, _<_, _≤_}
+use native.Mathlib.Omega.{arith}
 use lib.Dec.{T, leb}
 use lib.IntN.{ℤ}
 use lib.ListN.{length}
@@ -18,7 +19,7 @@ use Rattle.plan.specs.declared.query.StoredQuery.{StoredQuery}
 use Rattle.text.specs.Bytes.{Bytes}
 use Rattle.text.specs.Lines.{Line}
 use Rattle.text.specs.Reading.{tablesOf, textLines, reportOf, readReport}
-use Rattle.text.specs.Questions.{cellsInTables, tableFits, question3, question4}
+use Rattle.plan.specs.TableQuestions.{cellsInTables, tableFits, question3, question4}
 use Rattle.questions.specs.Kept.{room-of, too-many, enough-room}
 use Rattle.questions.specs.Whole.{Keeps, whole-five, whole-six, whole-seven}
 use Rattle.reader.specs.Query.{storedOf, done, stored-tables}
@@ -45,8 +46,8 @@ module _ (s : StoredQuery) where
     refused-6 f k = rw (sym e ∙ h, sym f ∙ k)
 
     module _ {c : Bool} (f : c ≡ (leb (s .«condition_count») 32 && question6 (queryIn s))) (k : c ≡ true) where
-      pub conditions-room : s .«condition_count» ≤ 32
-      conditions-room = room-of (s .«condition_count») 32 (question6 (queryIn s)) (sym f ∙ k)
+      pub conditions-room : s .«condition_count» ≤ 64
+      conditions-room = let l : s .«condition_count» ≤ 32 = room-of (s .«condition_count») 32 (question6 (queryIn s)) (sym f ∙ k) in omega arith
 
       pub refused-7 : {d : Bool} → d ≡ question7 (queryIn s) → d ≡ false → some 7 ≡ storedRefusal s
       unfolding storedRefusal fiveToSeven
@@ -79,14 +80,15 @@ module _ {s : StoredQuery} {q : Query} (k : Keeps s q) (t : tableCount q ≤ 8) 
       go false b x y = rw (whole-five k t, x)
 
   -- nothing but pairs was left out where there is no refusal
-  pub rooms : storedRefusal s ≡ none → (s .«join_count» ≤ 7) × (s .«condition_count» ≤ 32)
+  pub rooms : storedRefusal s ≡ none → (s .«join_count» ≤ 7) × (s .«condition_count» ≤ 64)
   unfolding storedRefusal fiveToSeven
   rooms e = go (leb (s .«join_count») 7 && question5 (queryIn s)) (leb (s .«condition_count») 32 && question6 (queryIn s)) refl refl e
     where
       go : (b c : Bool) → (leb (s .«join_count») 7 && question5 (queryIn s)) ≡ b → (leb (s .«condition_count») 32 && question6 (queryIn s)) ≡ c
-          → fiveToSeven b c (question7 (queryIn s)) ≡ none → (s .«join_count» ≤ 7) × (s .«condition_count» ≤ 32)
+          → fiveToSeven b c (question7 (queryIn s)) ≡ none → (s .«join_count» ≤ 7) × (s .«condition_count» ≤ 64)
       go true true f g e =
-          (room-of (s .«join_count») 7 (question5 (queryIn s)) f, room-of (s .«condition_count») 32 (question6 (queryIn s)) g)
+          let l : s .«condition_count» ≤ 32 = room-of (s .«condition_count») 32 (question6 (queryIn s)) g in
+          (room-of (s .«join_count») 7 (question5 (queryIn s)) f, omega arith)
       go true false f g e = clash cc
       go false c f g e = clash cc
 

@@ -1,3 +1,4 @@
+pub mod Limits
 pub mod Choice
 pub mod BoolLaws
 pub mod Cell

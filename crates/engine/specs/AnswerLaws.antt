@@ -21,8 +21,8 @@ use Rattle.text.specs.Lines.{Line}
 use Rattle.text.specs.Bytes.{Bytes}
 use Rattle.text.specs.Reading.{reportOf, textLines}
 use Rattle.text.specs.ReadingLaws.{report-well-read, read-report}
-use Rattle.text.specs.Questions.{cellsInTables, tableFits, question3}
-use Rattle.run.specs.Database.{tableAt, rowsIn}
+use Rattle.plan.specs.TableQuestions.{cellsInTables, tableFits, question3}
+use Rattle.plan.specs.Database.{tableAt, rowsIn}
 use Rattle.engine.specs.Answers.{Outcome, refused, answered, Question, firstNo, sharedQuestions, outcomeFor, outcomeBy}
 
 -- ---- questions in order

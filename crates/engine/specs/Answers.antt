@@ -11,7 +11,7 @@ use Rattle.plan.specs.Questions.{question5, question6, question7, question8, qu
 use Rattle.plan.specs.declared.step.Step.{Step}
 use Rattle.text.specs.Bytes.{Bytes}
 use Rattle.text.specs.Reading.{readReport}
-use Rattle.text.specs.Questions.{question3, question4}
+use Rattle.plan.specs.TableQuestions.{question3, question4}
 use Rattle.run.specs.Runs.{directRows, question11Direct, reportRows, reportSteps, question11}
 
 -- the number of the question that turned the text down, or an answer

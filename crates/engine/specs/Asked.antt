@@ -13,7 +13,7 @@ use Rattle.text.specs.Bytes.{Bytes}
 use Rattle.text.specs.Lines.{Line}
 use Rattle.text.specs.Reading.{textLines, reportOf, readReport}
 use Rattle.text.specs.ReadingLaws.{read-report}
-use Rattle.text.specs.Questions.{question3, question4}
+use Rattle.plan.specs.TableQuestions.{question3, question4}
 use Rattle.accept.specs.Accept.{fiveToSeven, queryRefusal, reportRefusal, refusal}
 use Rattle.engine.specs.Answers.{Outcome, refused, answered, Question, firstNo, sharedQuestions, outcomeFor, outcomeBy}
 

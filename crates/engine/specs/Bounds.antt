@@ -32,8 +32,8 @@ use Rattle.plan.specs.QueryLaws.{Accepted, query-matched, query-built, query-sh
 use Rattle.text.specs.Bytes.{Bytes}
 use Rattle.text.specs.Lines.{Line}
 use Rattle.text.specs.Reading.{reportOf, textLines, readReport}
-use Rattle.text.specs.Questions.{cellsInTables, tableFits, question3}
-use Rattle.run.specs.Database.{databaseOf, rowsIn, cellsOf, database}
+use Rattle.plan.specs.TableQuestions.{cellsInTables, tableFits, question3}
+use Rattle.plan.specs.Database.{databaseOf, rowsIn, cellsOf, database}
 use Rattle.run.specs.DatabaseLaws.{lawful, lawful-names, database-width}
 use Rattle.run.specs.LimitLaws.{within256, within-small, results-whole}
 use Rattle.run.specs.Padding.{finished-wide}

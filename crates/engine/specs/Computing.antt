@@ -18,9 +18,9 @@ use Rattle.text.specs.Bytes.{bytes, tab, lineFeed, sameBytes, cut, split, close
 use Rattle.text.specs.Numbers.{digit, decimal, valueOf, natural, small, positive, negative, number, ifMade, constant, cell}
 use Rattle.text.specs.Lines.{kindOf, field, oneOf, end, both, readAll, word, numberField, kindField, operatorField, cellFields, formT, formD, formJ, formC, formK, formP, firstOf, lineOf, linesOf}
 use Rattle.text.specs.Reading.{partOf, mayFollow, placed, tablesOf, joinsOf, conditionsOf, pairsOf, reportOf, ifPlaced, textLines, readReport}
-use Rattle.text.specs.Questions.{cellsInRows, cellsInTables, tableFits, question3, question4}
+use Rattle.plan.specs.TableQuestions.{cellsInRows, cellsInTables, tableFits, question3, question4}
 use Rattle.text.specs.Print.{digitsOf, printNumber, printFields, hasBit, bitNumbers, printEntry, printSets, kindLetter, printStep, printRow, printRefusal}
-use Rattle.run.specs.Database.{databaseOf, tableAt, rowsIn, cellsOf, database}
+use Rattle.plan.specs.Database.{databaseOf, tableAt, rowsIn, cellsOf, database}
 use Rattle.run.specs.Runs.{results, withinLimit, directRows, question11Direct, runRows, reportRows, pairCounts, reportSteps, question11}
 use Rattle.engine.specs.Answers.{firstNo, sharedQuestions, orderQuestions, reportQuestions, directQuestions, outcomeFor, outcomeBy, reportAnswer, reportOutcome, directOutcome}
 use Rattle.engine.specs.Programs.{printReport, printDirect, report, direct}

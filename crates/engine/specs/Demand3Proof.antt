@@ -21,8 +21,8 @@ use Rattle.text.specs.Bytes.{Bytes}
 use Rattle.text.specs.Lines.{Line}
 use Rattle.text.specs.Reading.{textLines, reportOf}
 use Rattle.text.specs.QueryLines.{queryLines, same-tables, same-joins, same-conditions}
-use Rattle.text.specs.Questions.{question3}
-use Rattle.run.specs.Database.{rowsIn, database}
+use Rattle.plan.specs.TableQuestions.{question3}
+use Rattle.plan.specs.Database.{rowsIn, database}
 use Rattle.run.specs.Runs.{directRows, runRows, reportRows, question11Direct, question11}
 use Rattle.run.specs.RunLaws.{direct-without-order, run-rows, kinds-fit, direct-reads}
 use Rattle.engine.specs.Answers.{Outcome, refused, answered, Question, firstNo, sharedQuestions, orderQuestions, directQuestions, reportQuestions, ReportAnswer, reportAnswer, reportOutcome, directOutcome}

@@ -26,7 +26,7 @@ use Rattle.plan.specs.declared.query.StoredQuery.{StoredQuery}
 use Rattle.text.specs.Bytes.{Bytes}
 use Rattle.text.specs.Lines.{Line}
 use Rattle.text.specs.Reading.{tablesOf, textLines, reportOf}
-use Rattle.text.specs.Questions.{cellsInTables, question3, question4}
+use Rattle.plan.specs.TableQuestions.{cellsInTables, question3, question4}
 use Rattle.load.specs.Cells.{laid, textCells}
 use Rattle.load.specs.Flat.{flatRows, flatTables, text-cells}
 use Rattle.questions.specs.Kept.{all-same}
@@ -88,7 +88,7 @@ module _ {bs : Bytes} {s : StoredQuery} (p : Passed bs s) where
   same-joins = kept .joins ∙ take-all 7 (here .joins) (omega (arith, kept .join-count, p .joins))
 
   pub same-conditions : queryIn s .conditions ≡ here .conditions
-  same-conditions = kept .conditions ∙ take-all 32 (here .conditions) (omega (arith, kept .condition-count, p .conditions))
+  same-conditions = kept .conditions ∙ take-all 64 (here .conditions) (omega (arith, kept .condition-count, p .conditions))
 
   pub same-pairs : s .«pair_count» ≤ 7 → queryIn s .pairs ≡ here .pairs
   same-pairs h = kept .pairs ∙ take-all 7 (here .pairs) (omega (arith, kept .pair-count, h))

@@ -31,7 +31,7 @@ use Rattle.text.specs.Reading.{tablesOf, conditionsOf, reportOf}
 use Rattle.load.specs.Flat.{flatTables}
 use Rattle.reader.specs.Query.{storedOf, done, stored-numbered}
 use Rattle.joins.specs.Work.{workspace}
-use Rattle.run.specs.Database.{databaseOf, rowsIn, cellsOf, database}
+use Rattle.plan.specs.Database.{databaseOf, rowsIn, cellsOf, database}
 use Rattle.run.specs.DatabaseLaws.{lawful, lawful-names, database-width}
 use Rattle.run.specs.LimitLaws.{within256, whole-results, results-whole}
 use Rattle.run.specs.Padding.{pad}
@@ -75,8 +75,8 @@ module _ {bs : Bytes} {s : StoredQuery} (p : Passed bs s) (passed : refusal bs �
   few : length ((tablesOf ls) .1) ≤ 8
   few = fits-tables ls (p .fits) .1
 
-  numbered : length (conditionsOf ls) ≤ 32
-  numbered = subst (λ (n : ℕ). n ≤ 32) (ap (λ (x : StoredQuery). x .«condition_count») (p .kept) ∙ stored-numbered ls) (p .conditions)
+  numbered : length (conditionsOf ls) ≤ 64
+  numbered = subst (λ (n : ℕ). n ≤ 64) (ap (λ (x : StoredQuery). x .«condition_count») (p .kept) ∙ stored-numbered ls) (p .conditions)
 
   query-tree : Shaped laws (joinTree q)
   query-tree = query-shaped q ok laws (database-width q (rowsIn r) (cellsOf r) small) (lawful-names q (rowsIn r) (cellsOf r) small)

@@ -16,7 +16,7 @@ use Rattle.plan.specs.declared.query.StoredQuery.{StoredQuery}
 use Rattle.text.specs.Bytes.{Bytes}
 use Rattle.text.specs.Lines.{Line}
 use Rattle.text.specs.Reading.{tablesOf, textLines, reportOf}
-use Rattle.text.specs.Questions.{cellsInTables, tableFits, question3}
+use Rattle.plan.specs.TableQuestions.{cellsInTables, tableFits, question3}
 use Rattle.reader.specs.Query.{storedOf, done, stored-tables, no-early-row}
 use Rattle.reader.specs.Outcome.{lines-placed}
 use Rattle.reader.specs.Looked.{noTable, rows-at}
@@ -71,7 +71,7 @@ module _ {bs : Bytes} {s : StoredQuery} (p : Passed bs s) where
         width = ap length (columns-whole lines eight) ∙ sym n;
         joins = few;
         room = rw (joins-room lines) few;
-        conditions = subst (λ (x : StoredQuery). x .«condition_count» ≤ 32) (p .kept) (p .conditions);
+        conditions = subst (λ (x : StoredQuery). x .«condition_count» ≤ 64) (p .kept) (p .conditions);
         rows = λ t h. table-rows lines (p .fits) early t (subst (λ (m : ℕ). t < m) (stored-tables lines) h);
         left = λ i h. let b = join-sides lines few i h noJoin five .0 in omega arith;
         right = λ i h. let b = join-sides lines few i h noJoin five .1 in omega arith;

@@ -45,7 +45,7 @@ use Rattle.joins.specs.Work.{workspace}
 use Rattle.joins.specs.declared.join.Joined.{Joined}
 use Rattle.joins.specs.declared.join.Joined.the-variants as J
 use Rattle.finish.specs.Flat.{flatRows}
-use Rattle.run.specs.Database.{database}
+use Rattle.plan.specs.Database.{database}
 use Rattle.run.specs.Finishing.{Written}
 use Rattle.run.specs.LimitLaws.{isIn-at}
 use Rattle.run.specs.PlanRuns.{PlanRan, ran, over}

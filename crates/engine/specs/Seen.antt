@@ -26,14 +26,14 @@ use Rattle.plan.specs.StepLists.{StepList}
 use Rattle.plan.specs.declared.query.StoredQuery.{StoredQuery}
 use Rattle.text.specs.Lines.{Line}
 use Rattle.text.specs.Reading.{tablesOf, conditionsOf, reportOf}
-use Rattle.text.specs.Questions.{cellsInTables, question4}
+use Rattle.plan.specs.TableQuestions.{cellsInTables, question4}
 use Rattle.load.specs.Flat.{flatTables}
 use Rattle.reader.specs.Query.{storedOf, done}
 use Rattle.reader.specs.Looked.{noTable, rows-at}
 use Rattle.reader.specs.Cells.{cells-whole}
 use Rattle.reader.specs.Conditions.{true-cells, condition-seen}
 use Rattle.joins.specs.Work.{workspace}
-use Rattle.run.specs.Database.{databaseOf, tableAt, rowsIn, cellsOf, database}
+use Rattle.plan.specs.Database.{databaseOf, tableAt, rowsIn, cellsOf, database}
 use Rattle.run.specs.DatabaseLaws.{lawful, lawful-names, database-width}
 use Rattle.run.specs.RunLaws.{run-rows}
 use Rattle.run.specs.Runs.{runRows, directRows}
@@ -41,7 +41,7 @@ use Rattle.run.specs.Padding.{pad, Wide, workspace-pad, finished-wide, finished
 use Rattle.run.specs.WidthLaws.{rows-pad}
 
 module _ (ls : List Line) (early : (tablesOf ls) .0 ≡ []) (fits : length ((tablesOf ls) .1) ≤ 8)
-    (few : cellsInTables ((tablesOf ls) .1) ≤ 4096) (even : question4 (reportOf ls) ≡ true) (numbered : length (conditionsOf ls) ≤ 32)
+    (few : cellsInTables ((tablesOf ls) .1) ≤ 4096) (even : question4 (reportOf ls) ≡ true) (numbered : length (conditionsOf ls) ≤ 64)
     (more : List ℤ) where
   abbrev s : StoredQuery
   s = storedOf (done ls)

@@ -6,4 +6,4 @@ use Rattle.plan.specs.declared.query.StoredQuery.{StoredQuery}
 pub record Counted (q : StoredQuery) : Type 0 where
   pub tables : q .«table_count» ≤ 8
   pub joins : q .«join_count» ≤ 7
-  pub conditions : q .«condition_count» ≤ 32
+  pub conditions : q .«condition_count» ≤ 64

@@ -4,7 +4,11 @@ pub mod Nodes
 pub mod Sets
 pub mod Plan
 pub mod Steps
+pub mod TableQuestions
+pub mod Database
 pub mod Questions
+pub mod Asking
+pub mod AskingLaws
 pub mod Bits
 pub mod BitLaws
 pub mod Counted

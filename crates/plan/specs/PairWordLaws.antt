@@ -59,7 +59,7 @@ crosses-word c s l = between-word (c .table) (c .side) s l
 
 -- ---- usable conditions
 
-module _ (q : Query) (S : Sets) (small : length S ≤ 8) (numbers : length (q .conditions) ≤ 32) where
+module _ (q : Query) (S : Sets) (small : length S ≤ 8) (numbers : length (q .conditions) ≤ 64) where
   module _ (ts : List ℕ) (below : (t : ℕ) → t isIn ts → t < 8) where
     common-elim : (k : ℕ) → T (hasBit (commonBits (setWords S) (bitsOf ts)) k) → T (inEvery S ts k)
     unfolding commonBits inEvery everyUnless
@@ -149,7 +149,7 @@ usable-in-numbers q p k m = usable-numbered q (blankingSets q) (tablesAt (orderN
 
 -- ---- a pair of the order
 
-module _ (q : Query) (small : tableCount q ≤ 8) (numbers : length (q .conditions) ≤ 32) (few : length (joinOrder q) ≤ 7) where
+module _ (q : Query) (small : tableCount q ≤ 8) (numbers : length (q .conditions) ≤ 64) (few : length (joinOrder q) ≤ 7) where
   sets-few : length (blankingSets q) ≤ 8
   sets-few = omega (arith, blanking-proper q .each)
 
@@ -217,7 +217,7 @@ module _ (q : Query) where
   fits-word p = fits-kind (usableAt q p) (allIn q p (p .0)) (allIn q p (p .1))
 
 -- the same, of the sets and the nodes that the code holds
-pub planned-in : (q : Query) → tableCount q ≤ 8 → length (q .conditions) ≤ 32 → length (joinOrder q) ≤ 7 → (sets nodes : List ℕ) (p : Pair)
+pub planned-in : (q : Query) → tableCount q ≤ 8 → length (q .conditions) ≤ 64 → length (joinOrder q) ≤ 7 → (sets nodes : List ℕ) (p : Pair)
     → sets ≡ setWords (blankingSets q) → nodes ≡ nodeWords (orderNodes q) → plannedBits q sets nodes p ≡ joinBits q (planned q p)
 unfolding plannedBits
 planned-in q small numbers few sets nodes p e f = ap (pairedBits q p) (usable-in q small numbers few sets nodes p e f) ∙ planned-word q p

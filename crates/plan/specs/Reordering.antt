@@ -1,7 +1,7 @@
 -- Demand 3 over a query: for an accepted query, an admitted order and every list of blanking steps that document 01 allows, the run
 -- of the plan gives the rows of the tree read directly. Assumes nothing.
 use mathlib.Core.Path.{_≡_, refl, sym, subst}
-use mathlib.Core.Logic.{_↔_, by-cases}
+use mathlib.Core.Logic.{_↔_, _⊎_, inl, inr, by-cases}
 use mathlib.Core.Bool.{not}
 use mathlib.Core.List.{List}
 use Prim.Native.Nat.{ℕ, _<_}
@@ -14,7 +14,8 @@ use Rattle.rows.specs.Trees.{Database, rowsOf}
 use Rattle.rows.specs.Nullification.{Blanking, planRows}
 use Rattle.rows.specs.Shapes.{Lawful, HasTable}
 use Rattle.rows.specs.Sets.{Applied}
-use Rattle.rows.specs.Reordering.{Reorders, reordered}
+use Rattle.rows.specs.Sound.{applied-true}
+use Rattle.rows.specs.Reordering.{Always, Reorders, reordered}
 use Rattle.plan.specs.Report.{Query, tableCount, conditionAt, joinOrder}
 use Rattle.plan.specs.Nodes.{joinTree}
 use Rattle.plan.specs.Sets.{setOf, blankingSets}
@@ -49,15 +50,19 @@ module _ (q : Query) (ok : Accepted q) {D : Database ℕ} (laws : Lawful D) (wid
       closed = query-closed q ok laws wide names;
       query-shaped = query-shaped q ok laws wide names;
       query-fits = query-fits q ok laws wide names;
-      query-applied = λ t c h m. query-sets q ok laws wide names t c .0 m;
+      query-always = λ t c h m x mx f.
+          applied-true laws (joinTree q) (query-shaped q ok laws wide names) x mx t c (query-sets q ok laws wide names t c .0 m) f;
       plan-shaped = plan-shaped q laws wide names built;
       plan-fits = plan-fits q laws wide names built;
       to-plan = λ t h. plan-tables q laws wide names built t .1 (query-tables q ok t .0 h);
       to-query = λ t h. query-tables q ok t .1 (plan-tables q laws wide names built t .0 h);
       steps-only = λ s m c n. missing-elim q (s .0) c (list .only s m c n);
-      steps-every = λ t c h m n.
+      steps-every = λ t c h m.
           let b : t < tableCount q = plan-tables q laws wide names built t .0 h in
-          list .every t b c (missing-intro q t c m (λ k. n (plan-applied q laws wide names built t b c .0 k)));
+          by-cases (decT (has (setOf (appliedSets q) t) c))
+          (λ k. inl (λ x mx f. applied-true laws (planTree q) (plan-shaped q laws wide names built) x mx t c
+          (plan-applied q laws wide names built t b c .0 (has-elim (setOf (appliedSets q) t) c k)) f))
+          (λ n. inr (list .every t b c (missing-intro q t c m (λ k. n (has-intro k)))));
     }
 
     -- the run of the plan with that list has the rows of the tree read directly

@@ -7,7 +7,10 @@ use rows::kind::Kind;
 // How many joins, conditions and pairs are kept. Of tables the layout keeps 8.
 pub const JOINS: usize = 7;
 
-pub const CONDITIONS: usize = 32;
+pub const CONDITIONS: usize = 64;
+
+// How many conditions a text may have (question 6).
+pub const WRITTEN: usize = 32;
 
 pub const PAIRS: usize = 7;
 

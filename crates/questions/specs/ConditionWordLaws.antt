@@ -180,7 +180,7 @@ module _ (q : StoredQuery) (t : q .«table_count» ≤ 8) (n : q .«join_count»
     ap length (nodes-from (queryIn q) (tableCount (queryIn q)) (joinPairs (queryIn q)) (joinPairs (queryIn q)) refl refl),
   )
 
-  pub fits-asked : length (q .conditions) ≡ 32 → q .«condition_count» ≤ 32 → (nodes : List ℕ) → nodes ≡ nodeWords (joinNodes (queryIn q))
+  pub fits-asked : length (q .conditions) ≡ 64 → q .«condition_count» ≤ 32 → (nodes : List ℕ) → nodes ≡ nodeWords (joinNodes (queryIn q))
       → all (joinFits (queryIn q) nodes) (queryIn q .joins) ≡ (leb (q .«condition_count») 32 && question6 (queryIn q))
   unfolding question6
   fits-asked l h nodes e =

@@ -31,7 +31,7 @@ pub record Keeps (s : StoredQuery) (q : Query) : Type 0 where
   pub join-count : s .«join_count» ≡ length (q .joins)
   pub joins : queryIn s .joins ≡ take 7 (q .joins)
   pub condition-count : s .«condition_count» ≡ length (q .conditions)
-  pub conditions : queryIn s .conditions ≡ take 32 (q .conditions)
+  pub conditions : queryIn s .conditions ≡ take 64 (q .conditions)
   pub pair-count : s .«pair_count» ≡ length (q .pairs)
   pub pairs : queryIn s .pairs ≡ take 7 (q .pairs)
 
@@ -94,7 +94,7 @@ module _ {s : StoredQuery} {q : Query} (k : Keeps s q) where
   same-joins h = k .joins ∙ take-all 7 (q .joins) (omega (arith, k .join-count))
 
   same-conditions : s .«condition_count» ≤ 32 → queryIn s .conditions ≡ q .conditions
-  same-conditions h = k .conditions ∙ take-all 32 (q .conditions) (omega (arith, k .condition-count))
+  same-conditions h = k .conditions ∙ take-all 64 (q .conditions) (omega (arith, k .condition-count))
 
   module _ (t : tableCount q ≤ 8) where
     pub whole-five : (leb (s .«join_count») 7 && question5 (queryIn s)) ≡ question5 q

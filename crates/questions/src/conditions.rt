@@ -3,8 +3,8 @@ use crate::tree;
 use cells::condition::Condition;
 use cells::condition::Side;
 use plan::bits;
-use plan::query::CONDITIONS;
 use plan::query::StoredQuery;
+use plan::query::WRITTEN;
 use plan::sets;
 use plan::sets::NODES;
 ghost use mathlib.Core.Path.{_≡_};
@@ -19,7 +19,7 @@ ghost use Rattle.questions.specs.ConditionWords.{columnUnder, sideUnder,
 
 // The condition of a number; where there is none, one with no operator.
 pub(crate) fn condition_at(q: StoredQuery, k: usize) -> Condition
-    requires { ⌜ q .«condition_count» ≤ 32 ⌝ }
+    requires { ⌜ q .«condition_count» ≤ 64 ⌝ }
     ensures { λ r. ⌜ r ≡ conditionAt (queryIn q) k ⌝ }
 {
     if (q.condition_count as usize) <= k {
@@ -80,7 +80,7 @@ fn condition_fits(q: StoredQuery, tables: u64, c: Condition) -> bool
 
 // The same of each of the `count` conditions from number `first` on.
 fn line_fits(q: StoredQuery, tables: u64, first: u16, count: u16) -> bool
-    requires { ⌜ (q .«table_count» ≤ 8) × (q .«condition_count» ≤ 32) ⌝ }
+    requires { ⌜ (q .«table_count» ≤ 8) × (q .«condition_count» ≤ 64) ⌝ }
     ensures { λ r. ⌜ r ≡ all (numberFits (queryIn q) tables) (range first count) ⌝ }
 {
     let end = (first as usize) + (count as usize);
@@ -97,7 +97,7 @@ fn line_fits(q: StoredQuery, tables: u64, first: u16, count: u16) -> bool
 
 // The same of every J line's conditions and the tables under it.
 fn lines_fit(q: StoredQuery, nodes: [u64; NODES]) -> bool
-    requires { ⌜ (q .«table_count» ≤ 8) × (q .«join_count» ≤ 7) × (q .«condition_count» ≤ 32) ⌝ }
+    requires { ⌜ (q .«table_count» ≤ 8) × (q .«join_count» ≤ 7) × (q .«condition_count» ≤ 64) ⌝ }
     ensures { λ r. ⌜ r ≡ all (joinFits (queryIn q) nodes) (queryIn q .joins) ⌝ }
 {
     let n = q.join_count as usize;
@@ -118,7 +118,7 @@ pub fn conditions_fit(q: StoredQuery) -> bool
     requires { ⌜ (q .«table_count» ≤ 8) × (q .«join_count» ≤ 7) ⌝ }
     ensures { λ r. ⌜ r ≡ (leb (q .«condition_count») 32 && question6 (queryIn q)) ⌝ }
 {
-    if CONDITIONS < (q.condition_count as usize) {
+    if WRITTEN < (q.condition_count as usize) {
         return false;
     }
     lines_fit(q, tree::nodes(q))

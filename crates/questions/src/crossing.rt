@@ -47,7 +47,7 @@ pub fn side_crosses(table: u16, side: Side, left: u64, right: u64) -> bool
 
 // Whether one of the `count` conditions from number `first` on is such a C line.
 fn line_crosses(q: StoredQuery, left: u64, right: u64, first: u16, count: u16) -> bool
-    requires { ⌜ q .«condition_count» ≤ 32 ⌝ }
+    requires { ⌜ q .«condition_count» ≤ 64 ⌝ }
     ensures { λ r. ⌜ r ≡ any (numberCrosses (queryIn q) left right) (range first count) ⌝ }
 {
     let end = (first as usize) + (count as usize);
@@ -65,7 +65,7 @@ fn line_crosses(q: StoredQuery, left: u64, right: u64, first: u16, count: u16) -
 
 // Whether every J line has such a C line.
 fn lines_cross(q: StoredQuery, nodes: [u64; NODES]) -> bool
-    requires { ⌜ (q .«join_count» ≤ 7) × (q .«condition_count» ≤ 32) ⌝ }
+    requires { ⌜ (q .«join_count» ≤ 7) × (q .«condition_count» ≤ 64) ⌝ }
     ensures { λ r. ⌜ r ≡ all (joinCrosses (queryIn q) nodes) (queryIn q .joins) ⌝ }
 {
     let n = q.join_count as usize;
@@ -84,7 +84,7 @@ fn lines_cross(q: StoredQuery, nodes: [u64; NODES]) -> bool
 
 // Question 7.
 pub fn joins_cross(q: StoredQuery) -> bool
-    requires { ⌜ (q .«table_count» ≤ 8) × (q .«join_count» ≤ 7) × (q .«condition_count» ≤ 32) ⌝ }
+    requires { ⌜ (q .«table_count» ≤ 8) × (q .«join_count» ≤ 7) × (q .«condition_count» ≤ 64) ⌝ }
     ensures { λ r. ⌜ r ≡ question7 (queryIn q) ⌝ }
 {
     lines_cross(q, tree::nodes(q))

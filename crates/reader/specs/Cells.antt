@@ -21,7 +21,7 @@ use Rattle.rows.specs.ListLaws.{all-elim, getD-isIn}
 use Rattle.plan.specs.Report.{Table}
 use Rattle.text.specs.Lines.{Line}
 use Rattle.text.specs.Reading.{tablesOf, reportOf}
-use Rattle.text.specs.Questions.{cellsInTables, question4}
+use Rattle.plan.specs.TableQuestions.{cellsInTables, question4}
 use Rattle.load.specs.Flat.{flatTables}
 use Rattle.reader.specs.State.{noTables, closedRows}
 use Rattle.reader.specs.Survey.{start}

@@ -55,13 +55,13 @@ behind : (n : ℕ) (z : Condition) (vs : List Condition) (t : ℕ) → z .operat
 behind n z vs t o h k =
     ap (λ (x : Condition). x .operator) (sets-behind (replicate n z) vs t noCondition (rw length-replicate h) k) ∙ replicated n t z o
 
-module _ (ls : List Line) (fits : length (conditionsOf ls) ≤ 32) where
+module _ (ls : List Line) (fits : length (conditionsOf ls) ≤ 64) where
   beyond : (c : ℕ) → length (conditionsOf ls) ≤ c → getD ((storedOf (done ls)) .conditions) c noCondition .operator ≡ 0
   unfolding storedOf start noJoins
   beyond c h =
       ap (λ (j : Joins). getD (j .conditions) c noCondition .operator) (after-joins start ls)
       ∙ ap (λ (l : List Condition). getD l c noCondition .operator) (conditions-kept noJoins ls)
-      ∙ behind 32 (record { table = 0; column = 0; operator = 0; side = Column 0 0 }) (conditionsOf ls) c refl fits h
+      ∙ behind 64 (record { table = 0; column = 0; operator = 0; side = Column 0 0 }) (conditionsOf ls) c refl fits h
 
   pub condition-seen : (f : Cells) (c : ℕ) (row : Row)
       → trueIn f (getD ((storedOf (done ls)) .conditions) c noCondition) row ≡ trueIn f (conditionAt (queryOf (reportOf ls)) c) row

@@ -17,7 +17,7 @@ use Rattle.rows.specs.Lists.{all}
 use Rattle.plan.specs.Report.{Table}
 use Rattle.text.specs.Lines.{Line, tableLine, rowLine, joinLine, conditionLine, orderLine}
 use Rattle.text.specs.Reading.{tablesOf}
-use Rattle.text.specs.Questions.{cellsInRows, cellsInTables, tableFits}
+use Rattle.plan.specs.TableQuestions.{cellsInRows, cellsInTables, tableFits}
 use Rattle.reader.specs.State.{cellsAfter, afterTable, afterRow, closedRows, openedTable, tableFits as fitsAfter}
 use Rattle.reader.specs.Kept.{tablesAfter}
 use Rattle.reader.specs.declared.tables.Tables.{Tables}

@@ -20,7 +20,7 @@ use Rattle.rows.specs.Lists.{all}
 use Rattle.plan.specs.Report.{Table}
 use Rattle.text.specs.Lines.{Line}
 use Rattle.text.specs.Reading.{tablesOf}
-use Rattle.text.specs.Questions.{cellsInRows, cellsInTables}
+use Rattle.plan.specs.TableQuestions.{cellsInRows, cellsInTables}
 use Rattle.load.specs.Flat.{flatRows, flatTables}
 use Rattle.reader.specs.State.{noTables, closedRows}
 use Rattle.reader.specs.Survey.{start}

@@ -15,7 +15,7 @@ use Rattle.text.specs.Bytes.{Bytes}
 use Rattle.text.specs.Lines.{Line}
 use Rattle.text.specs.Lines.{linesOf}
 use Rattle.text.specs.Reading.{placed, ifPlaced, textLines, tablesOf, reportOf}
-use Rattle.text.specs.Questions.{question3, question4}
+use Rattle.plan.specs.TableQuestions.{question3, question4}
 use Rattle.text.specs.Parts.{linesFrom}
 use Rattle.load.specs.Cells.{textCells, laid}
 use Rattle.reader.specs.Survey.{start, stepIn, readFrom, surveyOf}

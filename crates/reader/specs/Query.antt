@@ -19,7 +19,7 @@ use Rattle.plan.specs.declared.query.StoredPair.{StoredPair}
 use Rattle.plan.specs.declared.query.StoredQuery.{StoredQuery}
 use Rattle.text.specs.Lines.{Line, tableLine, rowLine, joinLine, conditionLine, orderLine}
 use Rattle.text.specs.Reading.{partOf, mayFollow, placed, tablesOf, joinsOf, conditionsOf, pairsOf, reportOf}
-use Rattle.text.specs.Questions.{cellsInRows, cellsInTables, tableFits, question3, question4}
+use Rattle.plan.specs.TableQuestions.{cellsInRows, cellsInTables, tableFits, question3, question4}
 use Rattle.reader.specs.State.{noTables, noJoins, noJoin, noPairs, closedRows, afterTable, afterRow, afterJoin, afterCondition, afterPair}
 use Rattle.reader.specs.Survey.{start}
 use Rattle.reader.specs.Agrees.{afterLine, linesAfter}
@@ -204,7 +204,7 @@ kept-joins ls h =
     ∙ ap (take (length ((storedJoins 0 ls) .1))) (joins-kept noJoins ls)
     ∙ sets-take (set (noJoins .joins) (noJoins .count - 1) (more ((storedJoins 0 ls) .0) (noJoins .latest))) ((storedJoins 0 ls) .1) h
 
-pub kept-conditions : (ls : List Line) → length (conditionsOf ls) ≤ 32
+pub kept-conditions : (ls : List Line) → length (conditionsOf ls) ≤ 64
     → take (length (conditionsOf ls)) ((storedOf (done ls)) .conditions) ≡ conditionsOf ls
 unfolding storedOf start noJoins
 kept-conditions ls h =
@@ -231,7 +231,7 @@ same-query : {c c′ : List ℕ} {j j′ : List Join} {d d′ : List Condition} 
 same-query a b c d = rw (a, b, c, d)
 
 -- where the counts are within the arrays' room, the query that is kept is the report's, with 7 pairs at most
-pub query-kept : (ls : List Line) → length ((tablesOf ls) .1) ≤ 8 → length ((joinsOf 0 ls) .1) ≤ 7 → length (conditionsOf ls) ≤ 32
+pub query-kept : (ls : List Line) → length ((tablesOf ls) .1) ≤ 8 → length ((joinsOf 0 ls) .1) ≤ 7 → length (conditionsOf ls) ≤ 64
     → queryIn (storedOf (done ls)) ≡ keptQuery (queryOf (reportOf ls))
 unfolding queryIn keptQuery queryOf reportOf
 query-kept ls t j d =

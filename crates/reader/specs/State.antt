@@ -80,7 +80,7 @@ noJoins = record {
   joins = replicate 7 noJoin;
   latest = noJoin;
   «condition_count» = 0;
-  conditions = replicate 32 (record { table = 0; column = 0; operator = 0; side = Column 0 0 });
+  conditions = replicate 64 (record { table = 0; column = 0; operator = 0; side = Column 0 0 });
 }
 
 unfoldable pub afterJoin : Joins → Kind → ℕ → ℕ → Joins

@@ -66,14 +66,14 @@ module _ (ls : List Line) where
       ∙ map-take joinIn 7 ((storedJoins 0 ls) .1)
       ∙ ap (take 7) (stored-joins 0 ls)
 
-  first-conditions : take (length (conditionsOf ls)) (kept .conditions) ≡ take 32 (conditionsOf ls)
+  first-conditions : take (length (conditionsOf ls)) (kept .conditions) ≡ take 64 (conditionsOf ls)
   unfolding storedOf start noJoins
   first-conditions =
       ap (λ (j : Joins). take (length (conditionsOf ls)) (j .conditions)) (after-joins start ls)
       ∙ ap (take (length (conditionsOf ls))) (conditions-kept noJoins ls)
       ∙ sets-kept (noJoins .conditions) (conditionsOf ls)
 
-  pub conditions-whole : queryIn kept .conditions ≡ take 32 (queryOf (reportOf ls) .conditions)
+  pub conditions-whole : queryIn kept .conditions ≡ take 64 (queryOf (reportOf ls) .conditions)
   unfolding queryIn queryOf reportOf
   conditions-whole = rw (stored-numbered ls) first-conditions
 

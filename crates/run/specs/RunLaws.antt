@@ -15,7 +15,7 @@ use Rattle.plan.specs.Questions.{question9, question10}
 use Rattle.plan.specs.QueryLaws.{Accepted, query-shaped}
 use Rattle.plan.specs.StepLists.{StepList}
 use Rattle.plan.specs.Reordering.{same-rows, question10-yes}
-use Rattle.run.specs.Database.{databaseOf, tableAt, rowsIn, cellsOf, database}
+use Rattle.plan.specs.Database.{databaseOf, tableAt, rowsIn, cellsOf, database}
 use Rattle.run.specs.DatabaseLaws.{lawful, lawful-names, database-width}
 use Rattle.run.specs.Runs.{directRows, runRows}
 

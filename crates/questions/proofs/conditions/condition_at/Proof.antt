@@ -26,7 +26,7 @@ returns-2 : tie.Need-returns-2
 returns-2 c =
     let s = c .before .before in
     let q = s .args .t1 in
-    let l : length (q .conditions) ≡ 32 = sym (length-map (q .conditions) _) ∙ s .good .0 .1 .1 .1 .1 .1 .1 .1 .0 .1 .0 .1 in
+    let l : length (q .conditions) ≡ 64 = sym (length-map (q .conditions) _) ∙ s .good .0 .1 .1 .1 .1 .1 .1 .1 .0 .1 .0 .1 in
     condition-kept q (omega arith) _ _ (c .before .if1 .left)
 
 pub condition-at-spec : {M : Type 1} → statement M

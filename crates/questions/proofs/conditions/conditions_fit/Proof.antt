@@ -25,7 +25,7 @@ returns-2 c =
     let i = c .before .before in
     let s = i .before .before in
     let q = s .args .q in
-    let l : length (q .conditions) ≡ 32 = sym (length-map (q .conditions) _) ∙ s .good .0 .1 .1 .1 .1 .1 .1 .1 .0 .1 .0 .1 in
+    let l : length (q .conditions) ≡ 64 = sym (length-map (q .conditions) _) ∙ s .good .0 .1 .1 .1 .1 .1 .1 .1 .0 .1 .0 .1 in
     c .lines-fit .ensures ∙ fits-asked q (s .pre .0) (s .pre .1) l (i .if1 .left) _ (c .before .nodes .ensures)
 
 pub conditions-fit-spec : {M : Type 1} → statement M

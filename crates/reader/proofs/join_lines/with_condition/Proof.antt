@@ -8,7 +8,7 @@ use Rattle.reader.proofs.join_lines.with_condition.Tie as tie
 
 returns : tie.Need-returns
 returns c =
-    let l : length (c .before .args .conditions) ≡ 32 = search needs in
+    let l : length (c .before .args .conditions) ≡ 64 = search needs in
     set-past _ _ _ _ l (c .if1 .taken)
 
 mul-next : tie.Need-mul-next
