@@ -80,6 +80,20 @@ fn report_wanted(l: Listed, n: usize, cells: &[i32], work: &[u16], result: &[u16
     memory::as_wanted(answer, r.tables, cells, work, result)
 }
 
+// The report, with the pattern in all that is lent.
+fn run_report(
+    text: &[u8],
+    n: usize,
+    cells: &mut [i32],
+    work: &mut [u16],
+    result: &mut [u16],
+) -> Listed
+    requires { ⌜ n ≤ stepListRoom + 4 ⌝ }
+{
+    memory::fill(cells, work, result);
+    listed::report_listed(text, cells, work, result, memory::marked_list(), n)
+}
+
 fn report_call(
     name: &[u8],
     text: &[u8],
@@ -92,8 +106,7 @@ fn report_call(
 )
     requires { ⌜ n ≤ stepListRoom + 4 ⌝ }
 {
-    memory::fill(cells, work, result);
-    let l = listed::report_listed(text, cells, work, result, memory::marked_list(), n);
+    let l = run_report(text, n, cells, work, result);
     let r = l.reply;
     let answer = r.answer;
     let wanted = report_wanted(l, n, cells, work, result);
