@@ -12,7 +12,7 @@ use Rattle.rows.specs.ListLaws.{here}
 use Rattle.rows.specs.Due.{Reads}
 use Rattle.plan.specs.Report.{Report, Query, queryOf}
 use Rattle.plan.specs.Nodes.{joinTree}
-use Rattle.plan.specs.Plan.{blankings}
+use Rattle.plan.specs.Plan.{groundOf, blankings}
 use Rattle.plan.specs.Questions.{question9}
 use Rattle.plan.specs.StepLists.{own-list}
 use Rattle.plan.specs.Database.{database}
@@ -71,7 +71,7 @@ report-due text a e =
     let (shared, order) = append-yes sharedQuestions orderQuestions (reportOf ls) before in
     let nine = all-yes orderQuestions (reportOf ls) order (9, λ (r : Report). question9 (queryOf r)) (here refl) in
     due-rows text ls read shared (a .rows)
-    (sym (report-rows ls shared nine (blankings (queryOf (reportOf ls))) (own-list (queryOf (reportOf ls)))) ∙ ap (λ (x : ReportAnswer). x .rows) same)
+    (sym (report-rows ls shared nine (blankings (groundOf (queryOf (reportOf ls)))) (own-list (groundOf (queryOf (reportOf ls))))) ∙ ap (λ (x : ReportAnswer). x .rows) same)
 
 -- the rows of an answer of the direct reading
 pub direct-due : (text : Bytes) (rows : List Row) → directOutcome text ≡ answered rows → DueRows text rows
