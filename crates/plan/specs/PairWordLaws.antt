@@ -59,6 +59,11 @@ crosses-word c s l = between-word (c .table) (c .side) s l
 
 -- ---- usable conditions
 
+-- a usable condition is one that there is
+usable-numbered : (q : Query) (S : Sets) (s l : List ℕ) (k : ℕ) → k isIn usable q S s l → k isIn conditionNumbers q
+unfolding usable
+usable-numbered q S s l k m = keep-elim (λ (k : ℕ). crosses (conditionAt q k) s l && (inEvery S s k || inEvery S l k)) (conditionNumbers q) m .0
+
 module _ (q : Query) (S : Sets) (small : length S ≤ 8) (numbers : length (q .conditions) ≤ 64) where
   module _ (ts : List ℕ) (below : (t : ℕ) → t isIn ts → t < 8) where
     common-elim : (k : ℕ) → T (hasBit (commonBits (setWords S) (bitsOf ts)) k) → T (inEvery S ts k)
@@ -138,10 +143,15 @@ module _ (q : Query) (S : Sets) (small : length S ≤ 8) (numbers : length (q .c
             (⊎-elim (λ z. inl (common-intro s bs k (omega arith) z)) (λ z. inr (common-intro l bl k (omega arith) z))
             (or-yes (inEvery S s k) (inEvery S l k) y)))
 
--- a usable condition is one that there is
-usable-numbered : (q : Query) (S : Sets) (s l : List ℕ) (k : ℕ) → k isIn usable q S s l → k isIn conditionNumbers q
-unfolding usable
-usable-numbered q S s l k m = keep-elim (λ (k : ℕ). crosses (conditionAt q k) s l && (inEvery S s k || inEvery S l k)) (conditionNumbers q) m .0
+    -- the same, with the two tests
+    pub usable-sides : usableBits q (setWords S) (bitsOf s) (bitsOf l)
+        ≡ record { conditions = bitsOf (usable q S s l); left = all (inEvery S s) (usable q S s l); right = all (inEvery S l) (usable q S s l) }
+    unfolding usableBits
+    usable-sides = rw (
+      usable-word,
+      within-word s bs (usable q S s l) (usable-numbered q S s l),
+      within-word l bl (usable q S s l) (usable-numbered q S s l),
+    )
 
 pub usable-in-numbers : (g : Ground) (p : Pair) (k : ℕ) → k isIn usableAt g p → k isIn conditionNumbers (g .query)
 unfolding usableAt
@@ -162,20 +172,13 @@ module _ (g : Ground) (proper : Proper (g .query) (g .sets)) (small : tableCount
   unfolding orderNodes
   nodes-few = nodes-most (g .query) (g .order) small few
 
-  pub usable-in : (sets nodes : List ℕ) (p : Pair) → sets ≡ setWords (g .sets) → nodes ≡ nodeWords (orderNodes g) → usableBits (g .query) sets nodes p
-      ≡ usableIn g p
-  unfolding usableBits usableIn usableAt allIn
+  pub usable-in : (sets nodes : List ℕ) (p : Pair) → sets ≡ setWords (g .sets) → nodes ≡ nodeWords (orderNodes g)
+      → usableBits (g .query) sets (getD nodes (p .0) 0) (getD nodes (p .1) 0) ≡ usableIn g p
+  unfolding usableIn usableAt allIn
   usable-in sets nodes p e f =
-      rw (
-        e,
-        f,
-        node-word (orderNodes g) nodes-few (p .0),
-        node-word (orderNodes g) nodes-few (p .1),
-        usable-word (g .query) (g .sets) sets-few numbers (tablesAt (orderNodes g) (p .0)) (tablesAt (orderNodes g) (p .1)) (under-below (p .0))
-            (under-below (p .1)),
-        within-word (g .query) (g .sets) sets-few numbers (tablesAt (orderNodes g) (p .0)) (under-below (p .0)) (usableAt g p) (usable-in-numbers g p),
-        within-word (g .query) (g .sets) sets-few numbers (tablesAt (orderNodes g) (p .1)) (under-below (p .1)) (usableAt g p) (usable-in-numbers g p),
-      )
+      rw (e, f, node-word (orderNodes g) nodes-few (p .0), node-word (orderNodes g) nodes-few (p .1))
+      (usable-sides (g .query) (g .sets) sets-few numbers (tablesAt (orderNodes g) (p .0)) (tablesAt (orderNodes g) (p .1)) (under-below (p .0))
+      (under-below (p .1)))
 
 -- ---- kinds
 
