@@ -27,7 +27,7 @@ use Rattle.plan.specs.Steps.{bitsOf}
 use Rattle.plan.specs.BitLaws.{same-bits, has-bits, bit-elim, bit-intro, word-is, bits-none, some-bits}
 use Rattle.plan.specs.Words.{everyBit, everyUnless, wordTables, setWords, nodeWords, namedBits, conditionBits, joinBits}
 use Rattle.plan.specs.WordLaws.{or-elim, or-intro, and-elim, and-intro, meet-elim, meet-intro}
-use Rattle.plan.specs.JoinLaws.{condition-elim, condition-intro, named-within}
+use Rattle.plan.specs.JoinLaws.{condition-elim, condition-intro, named-word}
 use Rattle.plan.specs.SetWords.{Proper, set-word, node-word, number-elim}
 use Rattle.plan.specs.FoldWords.{nodes-below, nodes-most}
 use Rattle.plan.specs.PairWords.{commonBits, betweenBits, crossesBits, crossingBits, withinBits, usableWord}
@@ -53,7 +53,7 @@ every-has : (k : ℕ) → k < 64 → T (hasBit everyBit k)
 unfolding everyBit hasBit
 every-has k h = at-below (λ (i : ℕ). hasBit 18446744073709551615 i) 64 tt k h
 
-crosses-word : (c : Condition) (s l : List ℕ) → crossesBits c (bitsOf s) (bitsOf l) ≡ crosses c s l
+pub crosses-word : (c : Condition) (s l : List ℕ) → crossesBits c (bitsOf s) (bitsOf l) ≡ crosses c s l
 unfolding crossesBits crosses
 crosses-word c s l = between-word (c .table) (c .side) s l
 
@@ -188,7 +188,7 @@ module _ (q : Query) where
   condition-is C n = word-is (conditionBits q C) C (λ k. (λ h. condition-elim q C k h .0, λ m. condition-intro q C k m (number-elim q k (n k m))))
 
   names-is : (C : List ℕ) → ((k : ℕ) → k isIn C → k isIn conditionNumbers q) → namedBits q (bitsOf C) ≡ bitsOf (wordTables (namedBy q C))
-  names-is C n = ap (namedBits q) (sym (condition-is C n)) ∙ named-within q C (λ k m. number-elim q k (n k m))
+  names-is C n = ap (namedBits q) (sym (condition-is C n)) ∙ named-word q C
 
   no-names : bitsOf (wordTables (namedBy q [])) ≡ 0
   unfolding namedBy wordTables keep bitsOf flatMap

@@ -1,5 +1,4 @@
 // Questions 5 and 9: how the J lines and the P lines join nodes.
-use crate::tree;
 use plan::bits;
 use plan::order;
 use plan::order::Order;
@@ -83,8 +82,7 @@ pub fn joins_built(q: StoredQuery) -> bool
     if JOINS < (q.join_count as usize) {
         return false;
     }
-    let lines = tree::lines(q);
-    well_built(q.table_count, order::of_lines(lines))
+    well_built(q.table_count, order::of_lines(q))
 }
 
 // Question 9, of P lines of which there may be more than are kept.

@@ -1,8 +1,8 @@
 // Question 6: the columns and the tables that conditions name.
-use crate::tree;
 use cells::condition::Condition;
 use cells::condition::Side;
 use plan::bits;
+use plan::order;
 use plan::query::StoredQuery;
 use plan::query::WRITTEN;
 use plan::sets;
@@ -17,14 +17,14 @@ ghost use Rattle.plan.specs.Stored.{queryIn};
 ghost use Rattle.plan.specs.Questions.{question6};
 ghost use Rattle.questions.specs.ConditionWords.{columnUnder, sideUnder, conditionUnder, numberFits, joinFits};
 
-// The condition of a number; where there is none, one with no operator.
+// The condition of a number; where there is none, one with no operator and of no table.
 pub(crate) fn condition_at(q: StoredQuery, k: usize) -> Condition
     requires { ⌜ q .«condition_count» ≤ 64 ⌝ }
     ensures { λ r. ⌜ r ≡ conditionAt (queryIn q) k ⌝ }
 {
     if (q.condition_count as usize) <= k {
         return Condition {
-            table: 0,
+            table: 65535,
             column: 0,
             operator: 0,
             side: Side::Constant(0),
@@ -121,5 +121,5 @@ pub fn conditions_fit(q: StoredQuery) -> bool
     if WRITTEN < (q.condition_count as usize) {
         return false;
     }
-    lines_fit(q, tree::nodes(q))
+    lines_fit(q, order::line_nodes(q))
 }
