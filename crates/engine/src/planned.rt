@@ -1,9 +1,9 @@
 // What a run hands over: document 01, "The plan".
 use crate::answer::Answer;
 use cells::condition::TABLES;
+use cells::limits::STEPS;
 use joins::join::Joined;
 use plan::step::Step;
-use plan::steps::STEPS;
 use plan::steps::StepList;
 use ready::prepared::Prepared;
 use runner::state::Run;

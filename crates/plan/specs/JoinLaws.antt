@@ -20,7 +20,7 @@ use Rattle.rows.specs.ListLaws.{_isIn_, here, there, decT, has-intro, has-elim}
 use Rattle.rows.specs.ListLaws.{keep-elim, keep-intro, keep-append, range-intro, range-elim, flatMap-intro, flatMap-elim}
 use Rattle.plan.specs.Report.{Query, conditionNumbers, conditionAt, noCondition, namedBy}
 use Rattle.plan.specs.Stored.{queryIn}
-use Rattle.plan.specs.Bits.{hasBit}
+use Rattle.plan.specs.Bits.{wordSize, hasBit}
 use Rattle.plan.specs.Steps.{bitsOf}
 use Rattle.plan.specs.BitLaws.{bit-elim, bit-intro, word-is, bits-append}
 use Rattle.plan.specs.Words.{onlyIf, unionTo, wordTables, tableBits, nameBits, namedBits, conditionBits}
@@ -48,8 +48,8 @@ module _ (q : StoredQuery) (h : q .«condition_count» ≤ length (q .conditions
 pub names-column : (c : Condition) (u v : ℕ) → c .side ≡ Column u v → nameBits c ≡ bitOr (tableBits (c .table)) (tableBits u)
 unfolding nameBits namesOf sideNames tableBits wordTables
 names-column c u v e =
-    rw e (ap bitsOf (keep-append (λ (t : ℕ). ltb t 64) (c .table ∷ []) (u ∷ [])) ∙ bits-append (keep (λ t. ltb t 64) (c .table ∷ []))
-    (keep (λ t. ltb t 64) (u ∷ [])))
+    rw e (ap bitsOf (keep-append (λ (t : ℕ). ltb t wordSize) (c .table ∷ []) (u ∷ [])) ∙ bits-append (keep (λ t. ltb t wordSize) (c .table ∷ []))
+    (keep (λ t. ltb t wordSize) (u ∷ [])))
 
 pub names-constant : (c : Condition) → (z : ℤ) → c .side ≡ Constant z → nameBits c ≡ tableBits (c .table)
 unfolding nameBits namesOf sideNames tableBits
@@ -88,23 +88,23 @@ module _ (q : Query) (C : List ℕ) where
   named-elim u t =
       let (k, l, x) = union-elim (λ (i : ℕ). onlyIf (hasBit (conditionBits q C) i) (nameBits (conditionAt q i))) (length (q .conditions)) u t in
       let (a, b) = only-elim (hasBit (conditionBits q C) k) (nameBits (conditionAt q k)) u x in
-      let (m, s) = keep-elim (λ (t : ℕ). ltb t 64) (namesOf (conditionAt q k)) (bit-elim (wordTables (namesOf (conditionAt q k))) u b) in
-      keep-intro (λ (t : ℕ). ltb t 64) (flatMap-intro (λ (c : ℕ). namesOf (conditionAt q c)) (condition-elim k a .0) m) s
+      let (m, s) = keep-elim (λ (t : ℕ). ltb t wordSize) (namesOf (conditionAt q k)) (bit-elim (wordTables (namesOf (conditionAt q k))) u b) in
+      keep-intro (λ (t : ℕ). ltb t wordSize) (flatMap-intro (λ (c : ℕ). namesOf (conditionAt q c)) (condition-elim k a .0) m) s
 
   -- a condition that there is not names no table of a word
   named-intro : (u : ℕ) → u isIn wordTables (namedBy q C) → T (hasBit (namedBits q (conditionBits q C)) u)
   unfolding namedBits wordTables namedBy nameBits conditionAt noCondition namesOf sideNames
   named-intro u m =
-      let (n, s) = keep-elim (λ (t : ℕ). ltb t 64) (namedBy q C) m in
+      let (n, s) = keep-elim (λ (t : ℕ). ltb t wordSize) (namedBy q C) m in
       let (k, c, x) = flatMap-elim (λ (c : ℕ). namesOf (conditionAt q c)) C n in
       by-cases (decT (ltb k (length (q .conditions))))
       (λ l. union-intro (λ (i : ℕ). onlyIf (hasBit (conditionBits q C) i) (nameBits (conditionAt q i))) (length (q .conditions)) u k (ltb-yes l)
       (only-intro (hasBit (conditionBits q C) k) (nameBits (conditionAt q k)) u (condition-intro k c (ltb-yes l))
-      (bit-intro (keep-intro (λ (t : ℕ). ltb t 64) x s))))
+      (bit-intro (keep-intro (λ (t : ℕ). ltb t wordSize) x s))))
       (λ l. let b : length (q .conditions) ≤ k = ltb-no (not-T (ltb k (length (q .conditions))) l) in
       absurd (none (subst (λ (d : Condition). u isIn namesOf d) (List·getD-eq-default (q .conditions) noCondition b) x) (ltb-yes s)))
     where
-      none : u isIn (65535 ∷ []) → u < 64 → ⊥
+      none : u isIn (65535 ∷ []) → u < wordSize → ⊥
       none (here e) l = omega arith
 
   pub named-word : namedBits q (conditionBits q C) ≡ bitsOf (wordTables (namedBy q C))

@@ -6,6 +6,7 @@ use Prim.Native.Nat.{ℕ}
 use lib.Bits.{bitAnd, bitOr}
 use lib.Dec.{eqb}
 use lib.ListN.{getD}
+use Rattle.cells.specs.Limits.{mostTables}
 use Rattle.cells.specs.Choice.{if_then_else_}
 use Rattle.cells.specs.declared.condition.Condition.{Condition}
 use Rattle.cells.specs.declared.condition.Side.{Side}
@@ -23,7 +24,7 @@ use Rattle.plan.specs.declared.pairs.Usable.{Usable}
 
 -- the conditions that are in the set of every one of these tables
 unfoldable pub commonBits : List ℕ → ℕ → ℕ
-commonBits sets tables = meetTo (λ t. everyUnless (hasBit tables t) (getD sets t 0)) 8
+commonBits sets tables = meetTo (λ t. everyUnless (hasBit tables t) (getD sets t 0)) mostTables
 
 -- whether a condition is a C line that names a table of each of two sets
 unfoldable pub betweenBits : ℕ → Side → ℕ → ℕ → Bool

@@ -10,6 +10,7 @@ use native.Mathlib.Omega.{arith}
 use lib.Dec.{T, leb, T-not}
 use lib.ListN.{length, getD, length-map, List·getD-eq-default}
 use mir.Facts.{and-yes, yes-and}
+use Rattle.cells.specs.Limits.{mostWritten}
 use Rattle.cells.specs.Condition.{namesOf}
 use Rattle.rows.specs.Lists.{range, all, any, has}
 use Rattle.rows.specs.ListLaws.{_isIn_, here, there, append-left, append-right, append-elim, all-elim, any-elim, any-intro, has-intro, flatMap-intro, Includes, length-range}
@@ -113,7 +114,7 @@ module _ (q : Query) (ok : Accepted q) where
 
       six : (c : ℕ) → c isIn j .conditions → T (conditionFits q ts (conditionAt q c))
       six c n = all-elim (λ k. conditionFits q ts (conditionAt q k)) (j .conditions)
-          (all-elim _ (q .joins) (and-yes (leb (length (q .conditions)) 32) _ (ok .six) .1) j m) c n
+          (all-elim _ (q .joins) (and-yes (leb (length (q .conditions)) mostWritten) _ (ok .six) .1) j m) c n
 
       seven : T (any (λ k. crosses (conditionAt q k) (tablesAt (joinNodes q) (j .left)) (tablesAt (joinNodes q) (j .right))) (j .conditions))
       seven = all-elim _ (q .joins) (ok .seven) j m

@@ -11,6 +11,7 @@ use lib.IntN.{ℤ}
 use lib.ListN.{length, getD, take, drop, length-take, List·getD-eq-default}
 use lib.Seq.{getD-take}
 use borrow.Author.Tests.{le-ltb, eq-eqb, ne-eqb}
+use Rattle.cells.specs.Limits.{mostTables, mostJoins, mostNodes, mostWritten, mostConditions}
 use Rattle.cells.specs.declared.condition.Condition.{Condition}
 use Rattle.cells.specs.declared.condition.Side.{Side}
 use Rattle.cells.specs.declared.condition.Side.the-variants.{Column, Constant}
@@ -129,7 +130,7 @@ condition-word q w ts k e = rw e (ap₂ _&&_ (column-word q ts (k .table) (k .co
 
 -- ---- the words of nodes
 
-module _ (q : Query) (nodes : List (List ℕ)) (few : length nodes ≤ 15) where
+module _ (q : Query) (nodes : List (List ℕ)) (few : length nodes ≤ mostNodes) where
   fits-words : (j : Join) → joinFits q (nodeWords nodes) j
       ≡ all (λ k. conditionFits q (tablesAt nodes (j .left) ++ tablesAt nodes (j .right)) (conditionAt q k)) (j .conditions)
   unfolding joinFits numberFits
@@ -148,8 +149,8 @@ module _ (q : Query) (nodes : List (List ℕ)) (few : length nodes ≤ 15) where
 
 -- ---- the questions
 
-module _ (q : StoredQuery) (t : q .«table_count» ≤ 8) (n : q .«join_count» ≤ 7) where
-  nodes-few : length (joinNodes (queryIn q)) ≤ 15
+module _ (q : StoredQuery) (t : q .«table_count» ≤ mostTables) (n : q .«join_count» ≤ mostJoins) where
+  nodes-few : length (joinNodes (queryIn q)) ≤ mostNodes
   unfolding joinNodes
   nodes-few = omega (
     arith,
@@ -159,13 +160,13 @@ module _ (q : StoredQuery) (t : q .«table_count» ≤ 8) (n : q .«join_count»
     ap length (nodes-from (queryIn q) (tableCount (queryIn q)) (joinPairs (queryIn q)) (joinPairs (queryIn q)) refl refl),
   )
 
-  pub fits-asked : length (q .conditions) ≡ 64 → q .«condition_count» ≤ 32 → (nodes : List ℕ) → nodes ≡ nodeWords (joinNodes (queryIn q))
-      → all (joinFits (queryIn q) nodes) (queryIn q .joins) ≡ (leb (q .«condition_count») 32 && question6 (queryIn q))
+  pub fits-asked : length (q .conditions) ≡ mostConditions → q .«condition_count» ≤ mostWritten → (nodes : List ℕ) → nodes ≡ nodeWords (joinNodes (queryIn q))
+      → all (joinFits (queryIn q) nodes) (queryIn q .joins) ≡ (leb (q .«condition_count») mostWritten && question6 (queryIn q))
   unfolding question6
   fits-asked l h nodes e =
       rw e (all-same (joinFits (queryIn q) (nodeWords (joinNodes (queryIn q)))) _ (queryIn q .joins) (fits-words (queryIn q) (joinNodes (queryIn q)) nodes-few)
-      ∙ sym (enough-room (length (queryIn q .conditions)) 32 _ (omega (arith, condition-count q (omega arith))))
-      ∙ sym (enough-room (q .«condition_count») 32 (question6 (queryIn q)) h))
+      ∙ sym (enough-room (length (queryIn q .conditions)) mostWritten _ (omega (arith, condition-count q (omega arith))))
+      ∙ sym (enough-room (q .«condition_count») mostWritten (question6 (queryIn q)) h))
 
   pub crosses-asked : (nodes : List ℕ) → nodes ≡ nodeWords (joinNodes (queryIn q)) → all (joinCrosses (queryIn q) nodes) (queryIn q .joins) ≡ question7 (queryIn q)
   unfolding question7

@@ -1,12 +1,13 @@
 // Question 7: the C lines between the two sides of a join.
 use crate::conditions;
+use cells::limits::NODES;
 use plan::order;
 use plan::pairs;
 use plan::query::StoredQuery;
 use plan::sets;
-use plan::sets::NODES;
 ghost use mathlib.Core.Path.{_≡_};
 ghost use Prim.Native.Nat.{_≤_};
+ghost use Rattle.cells.specs.Limits.{mostTables, mostJoins, mostConditions};
 ghost use Rattle.rows.specs.Lists.{range, all, any};
 ghost use Rattle.plan.specs.Stored.{queryIn};
 ghost use Rattle.plan.specs.Questions.{question7};
@@ -14,7 +15,7 @@ ghost use Rattle.questions.specs.ConditionWords.{numberCrosses, joinCros
 
 // Whether one of the `count` conditions from number `first` on is a C line between two sides of a join.
 fn line_crosses(q: StoredQuery, left: u64, right: u64, first: u16, count: u16) -> bool
-    requires { ⌜ q .«condition_count» ≤ 64 ⌝ }
+    requires { ⌜ q .«condition_count» ≤ mostConditions ⌝ }
     ensures { λ r. ⌜ r ≡ any (numberCrosses (queryIn q) left right) (range first count) ⌝ }
 {
     let end = (first as usize) + (count as usize);
@@ -31,7 +32,7 @@ fn line_crosses(q: StoredQuery, left: u64, right: u64, first: u16, count: u16) -
 
 // Whether every J line has such a C line.
 fn lines_cross(q: StoredQuery, nodes: [u64; NODES]) -> bool
-    requires { ⌜ (q .«join_count» ≤ 7) × (q .«condition_count» ≤ 64) ⌝ }
+    requires { ⌜ (q .«join_count» ≤ mostJoins) × (q .«condition_count» ≤ mostConditions) ⌝ }
     ensures { λ r. ⌜ r ≡ all (joinCrosses (queryIn q) nodes) (queryIn q .joins) ⌝ }
 {
     let n = q.join_count as usize;
@@ -50,7 +51,7 @@ fn lines_cross(q: StoredQuery, nodes: [u64; NODES]) -> bool
 
 // Question 7.
 pub fn joins_cross(q: StoredQuery) -> bool
-    requires { ⌜ (q .«table_count» ≤ 8) × (q .«join_count» ≤ 7) × (q .«condition_count» ≤ 64) ⌝ }
+    requires { ⌜ (q .«table_count» ≤ mostTables) × (q .«join_count» ≤ mostJoins) × (q .«condition_count» ≤ mostConditions) ⌝ }
     ensures { λ r. ⌜ r ≡ question7 (queryIn q) ⌝ }
 {
     lines_cross(q, order::line_nodes(q))
