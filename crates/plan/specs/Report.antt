@@ -1,5 +1,5 @@
 -- What a report says: document 01, "Report text". Assumes nothing.
-use mathlib.Core.Bool.{Bool, true, false}
+use mathlib.Core.Bool.{true}
 use mathlib.Core.List.{List, [], _∷_, map, flatMap}
 use Prim.Native.Nat.{ℕ}
 use lib.IntN.{ℤ, pos}
