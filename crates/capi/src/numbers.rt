@@ -1,8 +1,8 @@
 // An answer as a run of 64-bit numbers.
 use cells::condition::TABLES;
+use cells::limits::STEPS;
 use engine::answer::Answer;
 use plan::step::Step;
-use plan::steps::STEPS;
 ghost use mathlib.Core.Path.{_≡_};
 ghost use mathlib.Core.List.{_∷_, [], flatMap};
 ghost use Prim.Native.Nat.{_+_, _≤_};

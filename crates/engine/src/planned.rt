@@ -1,10 +1,10 @@
 // What a run hands over: document 01, "The plan".
 use crate::answer::Answer;
+use cells::limits::STEPS;
 use joins::join::Joined;
 use plan::facts;
 use plan::facts::Facts;
 use plan::step::Step;
-use plan::steps::STEPS;
 use plan::steps::StepList;
 use ready::prepared::Prepared;
 use runner::state::Run;

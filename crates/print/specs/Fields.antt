@@ -11,8 +11,9 @@ use lib.ListN.{length, take, drop, getD, length-drop}
 use lib.Seq.{getD-drop}
 use Rattle.cells.specs.Row.{blankRow}
 use Rattle.rows.specs.Lists.{keep}
+use Rattle.plan.specs.Bits.{hasBit}
 use Rattle.text.specs.Bytes.{Bytes, bytes, tab, lineFeed}
-use Rattle.text.specs.Print.{printFields, printNumber, digitsOf, printEntry, hasBit, bitNumbers}
+use Rattle.text.specs.Print.{printFields, printNumber, digitsOf, printEntry, bitNumbers}
 use Rattle.print.specs.Loops.{upTo, upTo-same, upTo-flatMap, upTo-keep}
 
 -- a field behind its tab

@@ -11,9 +11,10 @@ use Rattle.cells.specs.Choice.{if_then_else_}
 use Rattle.cells.specs.Row.{Row, blankRow}
 use Rattle.rows.specs.Lists.{range}
 use Rattle.rows.specs.ListLaws.{_isIn_, here, there, keep-fewer, length-range}
+use Rattle.plan.specs.Bits.{hasBit}
 use Rattle.plan.specs.declared.step.Step.{Step}
 use Rattle.text.specs.Bytes.{Bytes, bytes, tab, lineFeed}
-use Rattle.text.specs.Print.{digitsOf, printNumber, printFields, printEntry, hasBit, bitNumbers, kindLetter, printSets, printStep, printRow, printRefusal}
+use Rattle.text.specs.Print.{digitsOf, printNumber, printFields, printEntry, bitNumbers, kindLetter, printSets, printStep, printRow, printRefusal}
 use Rattle.print.specs.Room.{fieldRoom, bitsRoom, endRoom, tableRoom, stepRoom, rowRoom, refusalRoom, printRoom}
 use Rattle.print.specs.Fields.{field, numberField, entryField}
 use Rattle.print.specs.Lines.{end-line, row-line, refusal-line}
