@@ -12,6 +12,7 @@ use Rattle.plan.specs.Report.{queryOf, tableCount, tableNumbers, conditionNumbe
 use Rattle.plan.specs.Nodes.{grown, tablesAt, tablesOfPair, nodesOf, joinNodes, orderNodes, treeAt, treeOf, treesOf, lastTree, joinTrees, joinTree}
 use Rattle.plan.specs.Sets.{setOf, blanksLeft, blanksRight, taken, setAfter, setsAfter, setsBy, emptySets, blankingSets}
 use Rattle.plan.specs.Plan.{between, crosses, inEvery, usable, paired, fitsKind, usableAt, allIn, planned, plannedJoins, planTrees, planTree, appliedSets, missing, asks, blankings}
+use Rattle.plan.specs.Bits.{hasBit}
 use Rattle.plan.specs.Steps.{bitsOf, kindNumber, pairStep, blankingStep, bestMatchStep, zeroStep, stepsOf}
 use Rattle.plan.specs.Questions.{lowerSides, sidesOf, noneTwice, wellBuilt, question5, noneOrBuilt, question9, columnExists, sideExists, conditionFits, question6, question7, rightSides, namesRightSide, question8, question10}
 use Rattle.text.specs.Bytes.{bytes, tab, lineFeed, sameBytes, cut, split, closed}
@@ -19,7 +20,7 @@ use Rattle.text.specs.Numbers.{digit, decimal, valueOf, natural, small, positiv
 use Rattle.text.specs.Lines.{kindOf, field, oneOf, end, both, readAll, word, numberField, kindField, operatorField, cellFields, formT, formD, formJ, formC, formK, formP, firstOf, lineOf, linesOf}
 use Rattle.text.specs.Reading.{partOf, mayFollow, placed, tablesOf, joinsOf, conditionsOf, pairsOf, reportOf, ifPlaced, textLines, readReport}
 use Rattle.plan.specs.TableQuestions.{cellsInRows, cellsInTables, tableFits, question3, question4}
-use Rattle.text.specs.Print.{digitsOf, printNumber, printFields, hasBit, bitNumbers, printEntry, printSets, kindLetter, printStep, printRow, printRefusal}
+use Rattle.text.specs.Print.{digitsOf, printNumber, printFields, bitNumbers, printEntry, printSets, kindLetter, printStep, printRow, printRefusal}
 use Rattle.plan.specs.Database.{databaseOf, tableAt, rowsIn, cellsOf, database}
 use Rattle.run.specs.Runs.{results, withinLimit, directRows, question11Direct, runRows, reportRows, pairCounts, reportSteps, question11}
 use Rattle.engine.specs.Answers.{firstNo, sharedQuestions, orderQuestions, reportQuestions, directQuestions, outcomeFor, outcomeBy, reportAnswer, reportOutcome, directOutcome}
