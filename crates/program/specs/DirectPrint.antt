@@ -1,11 +1,11 @@
 -- The print of the direct reading, by the answer of the call. Assumes nothing.
 use mathlib.Core.Path.{_≡_, refl, sym, ap, ap₂, _∙_, subst}
 use mathlib.Core.Bool.{Bool, true, false, _&&_}
-use mathlib.Core.List.{List, [], _∷_, _++_, flatMap}
+use mathlib.Core.List.{List, _++_, flatMap}
 use Prim.Native.Nat.{ℕ, _*_, _≤_, _<_}
 use native.Mathlib.Nat.{mul-le-mul-right}
 use native.Mathlib.Omega.{arith}
-use lib.Dec.{T, leb, ltb}
+use lib.Dec.{leb}
 use lib.ListN.{length, drop}
 use mir.Facts.{and-yes, leb-yes}
 use borrow.Author.Tests.{lt-ltb, le-ltb}
@@ -27,7 +27,7 @@ use Rattle.engine.specs.Gave.{tablesIn, widthOf}
 use Rattle.engine.specs.Programs.{printDirect, direct}
 use Rattle.engine.specs.declared.answer.Answer.{Answer}
 use Rattle.engine.specs.declared.answer.Answer.the-variants.{Rows, Refused}
-use Rattle.program.specs.PrintedCalls.{PrintedCall, printCall, printed, printDirectCall}
+use Rattle.program.specs.PrintedCalls.{printCall, printed, printDirectCall}
 
 -- ---- any call
 

@@ -1,15 +1,13 @@
 -- The print of the report, by the answer of the call. Assumes nothing.
 use mathlib.Core.Path.{_≡_, refl, sym, ap, ap₂, _∙_, subst}
 use mathlib.Core.Bool.{Bool, true, false, and-true}
-use mathlib.Core.List.{List, [], _∷_, _++_, flatMap}
+use mathlib.Core.List.{List, _++_, flatMap}
 use Prim.Native.Nat.{ℕ, _≤_}
 use native.Mathlib.Omega.{arith}
-use lib.Dec.{leb}
-use lib.ListN.{length, take, drop, replicate}
+use lib.ListN.{length, take, replicate}
 use lib.Seq.{take-at}
 use Rattle.cells.specs.Choice.{if_then_else_}
 use Rattle.cells.specs.Limits.{mostSteps, resultRoom, printRoom}
-use Rattle.cells.specs.Row.{Row}
 use Rattle.plan.specs.Steps.{zeroStep}
 use Rattle.plan.specs.Facts.{noFacts}
 use Rattle.plan.specs.declared.facts.Facts.{Facts}
@@ -25,9 +23,8 @@ use Rattle.engine.specs.Answers.{Outcome, refused, answered, ReportAnswer, repo
 use Rattle.engine.specs.Bounds.{Bounded, report-bounded}
 use Rattle.engine.specs.Calls.{Lent, question1Direct, question1, written, cleared, laidOut, factsOf, ReportCall, reportAfter, reportCall}
 use Rattle.engine.specs.Programs.{printReport, report}
-use Rattle.engine.specs.declared.answer.Answer.{Answer}
 use Rattle.engine.specs.declared.answer.Answer.the-variants.{Rows, Refused}
-use Rattle.program.specs.PrintedCalls.{PrintedCall, printCall, printed, printReportCall}
+use Rattle.program.specs.PrintedCalls.{printCall, printed, printReportCall}
 use Rattle.program.specs.DirectPrint.{call-printed, rows-fit, rows-again, enough-result}
 
 -- what is printed of an answer, from what stands beside it
