@@ -14,7 +14,7 @@ use borrow.Author.Tests.{lt-ltb, le-ltb, le-leb, lt-leb}
 use Rattle.cells.specs.BoolLaws.{not-both}
 use Rattle.plan.specs.Report.{joinOrder}
 use Rattle.plan.specs.Sets.{blankingSets}
-use Rattle.plan.specs.Plan.{blankings}
+use Rattle.plan.specs.Plan.{groundOf, blankings}
 use Rattle.plan.specs.Steps.{stepsOf}
 use Rattle.plan.specs.Questions.{question5, question9}
 use Rattle.plan.specs.Stored.{queryIn}
@@ -68,7 +68,7 @@ module _ {p : Prepared} {r : Run} {w v : List ℕ} where
 
   module _ {v′ : List ℕ} {a : Joined} (e : p .run .refused ≡ false) (long : length (r .counts) ≡ 8) (ended : Ended (p .query) r w v v′ a) where
     pub ends-rows : {s : StepList} (k : ℕ) → a ≡ J.Rows k → s ≡ withCounts (p .plan) (r .counts) (p .query .«table_count» - 1)
-        → Ends p r w v v′ (record { answer = Rows k; tables = p .query .«table_count»; sets = p .sets; plan = s })
+        → Ends p r w v v′ (record { answer = Rows k; facts = record { tables = p .query .«table_count»; sets = p .sets }; plan = s })
     unfolding handedOver
     ends-rows {s} k f g = record {
       refused = λ h. absurd (not-both h e);
@@ -77,7 +77,7 @@ module _ {p : Prepared} {r : Run} {w v : List ℕ} where
         (
           a,
           ended,
-          ap (λ (z : StepList). record { answer = Rows k; tables = p .query .«table_count»; sets = p .sets; plan = z }) g
+          ap (λ (z : StepList). record { answer = Rows k; facts = record { tables = p .query .«table_count»; sets = p .sets }; plan = z }) g
               ∙ sym (ap (handedOver (p .query) (p .sets) (p .plan) (r .counts)) f),
         ),
       );
@@ -96,7 +96,7 @@ module _ (q : StoredQuery) (readable : Readable q) (five : T (question5 (queryIn
     (w w′ v v′ : List ℕ) (long : 16384 ≤ length w) (wide : 2048 ≤ length v) (r : Run) (h : Planned) where
   -- the plan of a query that is ready
   abbrev plan : StepList
-  plan = listed (stepsOf (queryIn q) (replicate (length (joinOrder (queryIn q))) 0))
+  plan = listed (stepsOf (groundOf (queryIn q)) (replicate (length (joinOrder (queryIn q))) 0))
 
   -- the run of what was made ready
   abbrev Ran : Prepared → Type 0
@@ -112,7 +112,7 @@ module _ (q : StoredQuery) (readable : Readable q) (five : T (question5 (queryIn
         counts = r .counts;
         joined = a;
         long = eight;
-        ran = lent-ran q plan refl readable five nine (q .«table_count») (q .«table_count» - 1) (length (blankings (queryIn q))) refl paired refl
+        ran = lent-ran q plan refl readable five nine (q .«table_count») (q .«table_count» - 1) (length (blankings (groundOf (queryIn q)))) refl paired refl
             cells n enough r w w′ v v′ a long wide run ended;
         handed = handed;
       }

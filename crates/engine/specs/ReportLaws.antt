@@ -25,7 +25,7 @@ use Rattle.plan.specs.Report.{Report, Query, queryOf, tableCount, tableNumbers,
 use Rattle.plan.specs.Nodes.{treeOf, treesOf, treeAt, lastTree}
 use Rattle.plan.specs.NodeLaws.{grown-length}
 use Rattle.plan.specs.Sets.{Sets, setOf, blankingSets}
-use Rattle.plan.specs.Plan.{plannedJoins, planTrees, planTree, blankings}
+use Rattle.plan.specs.Plan.{groundOf, plannedJoins, planTrees, planTree, blankings}
 use Rattle.plan.specs.FoldWords.{blanking-proper}
 use Rattle.plan.specs.PairWordLaws.{planned-count}
 use Rattle.plan.specs.Questions.{question8, question9, question10}
@@ -56,7 +56,7 @@ use Rattle.accept.specs.AcceptLaws.{passed-tables}
 use Rattle.engine.specs.Answers.{Outcome, refused, answered, Question, firstNo, sharedQuestions, orderQuestions, reportQuestions, ReportAnswer, reportAnswer, reportOutcome}
 use Rattle.engine.specs.AnswerLaws.{outcome-answered, outcome-refused}
 use Rattle.engine.specs.Asked.{refused-early, passed-early, eight-no, eight-yes}
-use Rattle.engine.specs.Calls.{noSets, written}
+use Rattle.engine.specs.Calls.{factsOf, written}
 use Rattle.engine.specs.Kept.{here, eight-kept, nine-kept, query-kept, tables-kept, run-kept}
 use Rattle.engine.specs.Planning.{turnedDown, withCounts, handedOver, StepsRun, QueryRun, QueryAsked, plannedFor, resultAfter, Reported}
 use Rattle.engine.specs.PlanningLaws.{rows-counted}
@@ -84,22 +84,21 @@ report-early bs n w e f = reported (refused n) (refused-early last reportAnswer 
 abbrev handedBy : Query → ℕ → List ℕ → Joined → Planned
 handedBy q n counts (J.Rows k) = record {
   answer = Rows k;
-  tables = n;
-  sets = setWords (blankingSets q);
-  plan = withCounts (listed (stepsOf q (replicate (length (joinOrder q)) 0))) counts (n - 1);
+  facts = record { tables = n; sets = setWords (blankingSets q) };
+  plan = withCounts (listed (stepsOf (groundOf q) (replicate (length (joinOrder q)) 0))) counts (n - 1);
 }
 handedBy q n counts J.TooMany = turnedDown 11
 
 handed-by : (s : StoredQuery) (counts : List ℕ) (j : Joined)
-    → handedOver s (setWords (blankingSets (queryIn s))) (listed (stepsOf (queryIn s) (replicate (length (joinOrder (queryIn s))) 0))) counts j
+    → handedOver s (setWords (blankingSets (queryIn s))) (listed (stepsOf (groundOf (queryIn s)) (replicate (length (joinOrder (queryIn s))) 0))) counts j
     ≡ handedBy (queryIn s) (s .«table_count») counts j
 unfolding handedOver
 handed-by s counts (J.Rows k) = refl
 handed-by s counts J.TooMany = refl
 
 -- each table's set as bits, and 0 for the tables that there are not
-sets-words : (S : Sets) → length S ≤ 8 → setWords S ≡ map bitsOf S ++ drop (length (map bitsOf S)) noSets
-unfolding setWords wordsTo setOf noSets bitsOf range
+sets-words : (S : Sets) → length S ≤ 8 → setWords S ≡ map bitsOf S ++ replicate (8 - length (map bitsOf S)) 0
+unfolding setWords wordsTo setOf bitsOf range
 sets-words [] h = refl
 sets-words (a ∷ []) h = refl
 sets-words (a ∷ b ∷ []) h = refl
@@ -178,7 +177,7 @@ module _ {bs : Bytes} {s : StoredQuery} (p : Passed bs s) (passed : refusal bs �
       n = tableCount q
 
       abbrev trees : List (Tree ℕ)
-      trees = planTrees q
+      trees = planTrees (groundOf q)
 
       yes-9 : T (question9 q)
       yes-9 = rw nine tt
@@ -196,7 +195,7 @@ module _ {bs : Bytes} {s : StoredQuery} (p : Passed bs s) (passed : refusal bs �
       unfolding planTrees treesOf tableNumbers
       nodes =
           let a : length {A = Tree ℕ} (map leaf (tableNumbers q)) ≡ n = length-map (tableNumbers q) leaf ∙ length-range 0 n in
-          grown-length treeOf (map leaf (tableNumbers q)) (plannedJoins q) ∙ ap₂ _+_ a (planned-count q)
+          grown-length treeOf (map leaf (tableNumbers q)) (plannedJoins (groundOf q)) ∙ ap₂ _+_ a (planned-count (groundOf q))
 
       -- the results of the pairs
       abbrev found : List (List Row)
@@ -256,34 +255,34 @@ module _ {bs : Bytes} {s : StoredQuery} (p : Passed bs s) (passed : refusal bs �
             ∙ sym (List·getD-map (λ (rows : List Row). length rows) found i (rowsOf (database report) (leaf 0))))
 
         -- the plan with its counts
-        steps-all : withCounts (listed (stepsOf q (replicate (length (joinOrder q)) 0))) counts (n - 1) ≡ listed (reportSteps report)
+        steps-all : withCounts (listed (stepsOf (groundOf q) (replicate (length (joinOrder q)) 0))) counts (n - 1) ≡ listed (reportSteps report)
         unfolding reportSteps
         steps-all =
             let e : n - 1 ≡ length (joinOrder q) = omega (arith, pairs) in
-            ap (withCounts (listed (stepsOf q (replicate (length (joinOrder q)) 0))) counts) e
+            ap (withCounts (listed (stepsOf (groundOf q) (replicate (length (joinOrder q)) 0))) counts) e
             ∙ rows-counted q counts (omega (arith, pairs, long, tables-few))
-            ∙ ap (λ (ns : List ℕ). listed (stepsOf q ns)) counts-all
+            ∙ ap (λ (ns : List ℕ). listed (stepsOf (groundOf q) ns)) counts-all
 
         -- the rows of the last node
-        last-node : treeAt trees (n + (n - 1) - 1) ≡ planTree q
+        last-node : treeAt trees (n + (n - 1) - 1) ≡ planTree (groundOf q)
         unfolding planTree lastTree
         last-node = ap (treeAt trees) (omega (arith, nodes, pairs))
 
-      sets-all : setWords (blankingSets q) ≡ map bitsOf (blankingSets q) ++ drop (length (map bitsOf (blankingSets q))) noSets
+      sets-all : setWords (blankingSets q) ≡ map bitsOf (blankingSets q) ++ replicate (8 - length (map bitsOf (blankingSets q))) 0
       sets-all = sets-words (blankingSets q) (omega (arith, blanking-proper q .each, tables-few))
 
       tables-all : n ≡ length (map bitsOf (blankingSets q))
       tables-all = sym (length-map (blankingSets q) bitsOf ∙ blanking-proper q .each)
 
       -- the plan run
-      ran-gives : {r : Planned} (counts : List ℕ) (j : Joined) → length counts ≡ 8 → PlanRan W trees n (n - 1) (blankings q) counts w w′ j
+      ran-gives : {r : Planned} (counts : List ℕ) (j : Joined) → length counts ≡ 8 → PlanRan W trees n (n - 1) (blankings (groundOf q)) counts w w′ j
           → r ≡ handedBy q n counts j → Reported (reportOutcome bs) w w′ r
-      unfolding plannedFor resultAfter reportAnswer written flatRows
+      unfolding plannedFor factsOf resultAfter reportAnswer written flatRows
       ran-gives counts _ long (ran m few each x) e =
-          let f : finished W (blankings q) (rowsOf W (treeAt trees (n + (n - 1) - 1))) ≡ finished W (blankings q) (rowsOf W (planTree q)) =
-          ap (λ (E : Tree ℕ). finished W (blankings q) (rowsOf W E)) (last-node counts long few each) in
+          let f : finished W (blankings (groundOf q)) (rowsOf W (treeAt trees (n + (n - 1) - 1))) ≡ finished W (blankings (groundOf q)) (rowsOf W (planTree (groundOf q))) =
+          ap (λ (E : Tree ℕ). finished W (blankings (groundOf q)) (rowsOf W E)) (last-node counts long few each) in
           let c : m ≡ length (reportRows report) = x .count ∙ ap length f ∙ report-count p passed yes-8 more yes-9 in
-          let v : flatRows n (finished W (blankings q) (rowsOf W (treeAt trees (n + (n - 1) - 1)))) ≡ flatMap (λ (row : Row). row) (reportRows report) =
+          let v : flatRows n (finished W (blankings (groundOf q)) (rowsOf W (treeAt trees (n + (n - 1) - 1)))) ≡ flatMap (λ (row : Row). row) (reportRows report) =
           ap (flatMap (take n)) f ∙ report-numbers p passed yes-8 more yes-9 in
           reported (answered (reportAnswer report)) (outcome-rows nine ten (eleven-yes counts long few each))
           (e ∙ rw (c, sets-all, steps-all counts long few each, tables-all)) (x .numbers ∙ rw v)
@@ -312,9 +311,9 @@ module _ {bs : Bytes} {s : StoredQuery} (p : Passed bs s) (passed : refusal bs �
           ten-is true e =
               let y = x .rows a e in
               ran-gives before after run room (sym (nine-kept p) ∙ a) (sym (ap question10 same) ∙ e) w w′ (y .counts) (y .joined) (y .long)
-              (subst (λ (D : Database ℕ). PlanRan D (planTrees q) (tableCount q) (tableCount q - 1) (blankings q) (y .counts) w w′ (y .joined)) whole
-              (subst (λ (k : ℕ). PlanRan Z (planTrees q) k (k - 1) (blankings q) (y .counts) w w′ (y .joined)) (tables-kept p)
-              (subst (λ (z : Query). PlanRan Z (planTrees z) (s .«table_count») (s .«table_count» - 1) (blankings z) (y .counts) w w′ (y .joined)) same
+              (subst (λ (D : Database ℕ). PlanRan D (planTrees (groundOf q)) (tableCount q) (tableCount q - 1) (blankings (groundOf q)) (y .counts) w w′ (y .joined)) whole
+              (subst (λ (k : ℕ). PlanRan Z (planTrees (groundOf q)) k (k - 1) (blankings (groundOf q)) (y .counts) w w′ (y .joined)) (tables-kept p)
+              (subst (λ (z : Query). PlanRan Z (planTrees (groundOf z)) (s .«table_count») (s .«table_count» - 1) (blankings (groundOf z)) (y .counts) w w′ (y .joined)) same
               (y .ran))))
               (y .handed ∙ handed-by s (y .counts) (y .joined)
               ∙ ap₂ (λ (z : Query) (k : ℕ). handedBy z k (y .counts) (y .joined)) same (tables-kept p))

@@ -11,6 +11,7 @@ use lib.IntN.{ℤ}
 use lib.ListN.{length, getD, length-map, List·getD-map}
 use mir.Facts.{and-yes, yes-and, or-yes, eqb-yes, yes-eqb}
 use borrow.Author.Tests.{ne-eqb}
+use Rattle.cells.specs.Limits.{mostTables, mostPairs, mostNodes, mostConditions}
 use Rattle.cells.specs.BoolLaws.{same-test}
 use Rattle.cells.specs.Below.{at-below}
 use Rattle.cells.specs.declared.condition.Condition.{Condition}
@@ -18,20 +19,20 @@ use Rattle.cells.specs.declared.condition.Side.{Side}
 use Rattle.cells.specs.declared.condition.Side.the-variants.{Column, Constant}
 use Rattle.rows.specs.Lists.{all, keep, has}
 use Rattle.rows.specs.ListLaws.{_isIn_, there, or-left, or-right, has-intro, has-elim, keep-elim, keep-intro, all-elim, all-intro}
-use Rattle.plan.specs.Report.{Pair, Query, tableCount, conditionNumbers, conditionAt, namedBy, joinOrder}
-use Rattle.plan.specs.Nodes.{tablesAt, orderNodes}
-use Rattle.plan.specs.Sets.{Sets, setOf, blankingSets}
-use Rattle.plan.specs.Plan.{between, crosses, inEvery, usable, paired, fitsKind, usableAt, allIn, planned, plannedJoins}
-use Rattle.plan.specs.Bits.{hasBit}
+use Rattle.plan.specs.Report.{Pair, Query, tableCount, conditionNumbers, conditionAt, namedBy}
+use Rattle.plan.specs.Nodes.{tablesAt}
+use Rattle.plan.specs.Sets.{Sets, setOf}
+use Rattle.plan.specs.Plan.{Ground, between, crosses, inEvery, usable, paired, fitsKind, orderNodes, usableAt, allIn, pairFits, planned, plannedJoins}
+use Rattle.plan.specs.Bits.{wordSize, hasBit}
 use Rattle.plan.specs.Steps.{bitsOf}
 use Rattle.plan.specs.BitLaws.{same-bits, has-bits, bit-elim, bit-intro, word-is, bits-none, some-bits}
 use Rattle.plan.specs.Words.{everyBit, everyUnless, wordTables, setWords, nodeWords, namedBits, conditionBits, joinBits}
 use Rattle.plan.specs.WordLaws.{or-elim, or-intro, and-elim, and-intro, meet-elim, meet-intro}
-use Rattle.plan.specs.JoinLaws.{condition-elim, condition-intro, named-within}
-use Rattle.plan.specs.SetWords.{set-word, node-word, number-elim}
-use Rattle.plan.specs.FoldWords.{nodes-below, nodes-most, blanking-proper}
+use Rattle.plan.specs.JoinLaws.{condition-elim, condition-intro, named-word}
+use Rattle.plan.specs.SetWords.{Proper, set-word, node-word, number-elim}
+use Rattle.plan.specs.FoldWords.{nodes-below, nodes-most}
 use Rattle.plan.specs.PairWords.{commonBits, betweenBits, crossesBits, crossingBits, withinBits, usableWord}
-use Rattle.plan.specs.PairWords.{usableBits, usableIn, fitsBits, pairFits, pairedBits, plannedBits}
+use Rattle.plan.specs.PairWords.{usableBits, usableIn, fitsBits, pairedBits, plannedBits}
 
 -- ---- the two kinds of conditions
 
@@ -49,32 +50,37 @@ unfolding betweenBits between
 between-word t (Column u v) s l = rw (has-bits s t, has-bits l u, has-bits l t, has-bits s u)
 between-word t (Constant z) s l = refl
 
-every-has : (k : ℕ) → k < 64 → T (hasBit everyBit k)
+every-has : (k : ℕ) → k < wordSize → T (hasBit everyBit k)
 unfolding everyBit hasBit
-every-has k h = at-below (λ (i : ℕ). hasBit 18446744073709551615 i) 64 tt k h
+every-has k h = at-below (λ (i : ℕ). hasBit 18446744073709551615 i) wordSize tt k h
 
-crosses-word : (c : Condition) (s l : List ℕ) → crossesBits c (bitsOf s) (bitsOf l) ≡ crosses c s l
+pub crosses-word : (c : Condition) (s l : List ℕ) → crossesBits c (bitsOf s) (bitsOf l) ≡ crosses c s l
 unfolding crossesBits crosses
 crosses-word c s l = between-word (c .table) (c .side) s l
 
 -- ---- usable conditions
 
-module _ (q : Query) (S : Sets) (small : length S ≤ 8) (numbers : length (q .conditions) ≤ 64) where
-  module _ (ts : List ℕ) (below : (t : ℕ) → t isIn ts → t < 8) where
+-- a usable condition is one that there is
+usable-numbered : (q : Query) (S : Sets) (s l : List ℕ) (k : ℕ) → k isIn usable q S s l → k isIn conditionNumbers q
+unfolding usable
+usable-numbered q S s l k m = keep-elim (λ (k : ℕ). crosses (conditionAt q k) s l && (inEvery S s k || inEvery S l k)) (conditionNumbers q) m .0
+
+module _ (q : Query) (S : Sets) (small : length S ≤ mostTables) (numbers : length (q .conditions) ≤ mostConditions) where
+  module _ (ts : List ℕ) (below : (t : ℕ) → t isIn ts → t < mostTables) where
     common-elim : (k : ℕ) → T (hasBit (commonBits (setWords S) (bitsOf ts)) k) → T (inEvery S ts k)
     unfolding commonBits inEvery everyUnless
     common-elim k h = all-intro (λ (t : ℕ). has (setOf S t) k) ts (λ t m.
         let x : T (hasBit (everyUnless (hasBit (bitsOf ts) t) (getD (setWords S) t 0)) k) =
-        meet-elim (λ (t : ℕ). everyUnless (hasBit (bitsOf ts) t) (getD (setWords S) t 0)) 8 k h t (below t m) in
+        meet-elim (λ (t : ℕ). everyUnless (hasBit (bitsOf ts) t) (getD (setWords S) t 0)) mostTables k h t (below t m) in
         has-intro (bit-elim (setOf S t) k
         (subst (λ (w : ℕ). T (hasBit w k)) (set-word S small t) (chosen (hasBit (bitsOf ts) t) (bit-intro m) (getD (setWords S) t 0) x))))
       where
         chosen : (b : Bool) → T b → (w : ℕ) → T (hasBit (everyUnless b w) k) → T (hasBit w k)
         chosen true y w x = x
 
-    common-intro : (k : ℕ) → k < 64 → T (inEvery S ts k) → T (hasBit (commonBits (setWords S) (bitsOf ts)) k)
+    common-intro : (k : ℕ) → k < wordSize → T (inEvery S ts k) → T (hasBit (commonBits (setWords S) (bitsOf ts)) k)
     unfolding commonBits inEvery everyUnless
-    common-intro k l h = meet-intro (λ (t : ℕ). everyUnless (hasBit (bitsOf ts) t) (getD (setWords S) t 0)) 8 k l
+    common-intro k l h = meet-intro (λ (t : ℕ). everyUnless (hasBit (bitsOf ts) t) (getD (setWords S) t 0)) mostTables k l
         (λ t b. choose (hasBit (bitsOf ts) t) (getD (setWords S) t 0) (λ y.
         subst (λ (w : ℕ). T (hasBit w k)) (sym (set-word S small t))
         (bit-intro (has-elim (setOf S t) k (all-elim (λ (t : ℕ). has (setOf S t) k) ts h t (bit-elim ts t y))))))
@@ -100,7 +106,7 @@ module _ (q : Query) (S : Sets) (small : length S ≤ 8) (numbers : length (q .c
         m : ℕ
         m = commonBits (setWords S) (bitsOf ts)
 
-  module _ (s l : List ℕ) (bs : (t : ℕ) → t isIn s → t < 8) (bl : (t : ℕ) → t isIn l → t < 8) where
+  module _ (s l : List ℕ) (bs : (t : ℕ) → t isIn s → t < mostTables) (bl : (t : ℕ) → t isIn l → t < mostTables) where
     usable-word : usableWord q (setWords S) (bitsOf s) (bitsOf l) ≡ bitsOf (usable q S s l)
     unfolding usableWord usable crossingBits
     usable-word = word-is
@@ -138,43 +144,42 @@ module _ (q : Query) (S : Sets) (small : length S ≤ 8) (numbers : length (q .c
             (⊎-elim (λ z. inl (common-intro s bs k (omega arith) z)) (λ z. inr (common-intro l bl k (omega arith) z))
             (or-yes (inEvery S s k) (inEvery S l k) y)))
 
--- a usable condition is one that there is
-usable-numbered : (q : Query) (S : Sets) (s l : List ℕ) (k : ℕ) → k isIn usable q S s l → k isIn conditionNumbers q
-unfolding usable
-usable-numbered q S s l k m = keep-elim (λ (k : ℕ). crosses (conditionAt q k) s l && (inEvery S s k || inEvery S l k)) (conditionNumbers q) m .0
+    -- the same, with the two tests
+    pub usable-sides : usableBits q (setWords S) (bitsOf s) (bitsOf l)
+        ≡ record { conditions = bitsOf (usable q S s l); left = all (inEvery S s) (usable q S s l); right = all (inEvery S l) (usable q S s l) }
+    unfolding usableBits
+    usable-sides = rw (
+      usable-word,
+      within-word s bs (usable q S s l) (usable-numbered q S s l),
+      within-word l bl (usable q S s l) (usable-numbered q S s l),
+    )
 
-pub usable-in-numbers : (q : Query) (p : Pair) (k : ℕ) → k isIn usableAt q p → k isIn conditionNumbers q
+pub usable-in-numbers : (g : Ground) (p : Pair) (k : ℕ) → k isIn usableAt g p → k isIn conditionNumbers (g .query)
 unfolding usableAt
-usable-in-numbers q p k m = usable-numbered q (blankingSets q) (tablesAt (orderNodes q) (p .0)) (tablesAt (orderNodes q) (p .1)) k m
+usable-in-numbers g p k m = usable-numbered (g .query) (g .sets) (tablesAt (orderNodes g) (p .0)) (tablesAt (orderNodes g) (p .1)) k m
 
 -- ---- a pair of the order
 
-module _ (q : Query) (small : tableCount q ≤ 8) (numbers : length (q .conditions) ≤ 64) (few : length (joinOrder q) ≤ 7) where
-  sets-few : length (blankingSets q) ≤ 8
-  sets-few = omega (arith, blanking-proper q .each)
+module _ (g : Ground) (proper : Proper (g .query) (g .sets)) (small : tableCount (g .query) ≤ mostTables) (numbers : length (g .query .conditions) ≤ mostConditions)
+    (few : length (g .order) ≤ mostPairs) where
+  sets-few : length (g .sets) ≤ mostTables
+  sets-few = omega (arith, proper .each)
 
-  under-below : (i t : ℕ) → t isIn tablesAt (orderNodes q) i → t < 8
+  under-below : (i t : ℕ) → t isIn tablesAt (orderNodes g) i → t < mostTables
   unfolding orderNodes
-  under-below i t m = let b = nodes-below q (joinOrder q) i t m in omega arith
+  under-below i t m = let b = nodes-below (g .query) (g .order) i t m in omega arith
 
-  nodes-few : length (orderNodes q) ≤ 15
+  nodes-few : length (orderNodes g) ≤ mostNodes
   unfolding orderNodes
-  nodes-few = nodes-most q (joinOrder q) small few
+  nodes-few = nodes-most (g .query) (g .order) small few
 
-  pub usable-in : (sets nodes : List ℕ) (p : Pair) → sets ≡ setWords (blankingSets q) → nodes ≡ nodeWords (orderNodes q) → usableBits q sets nodes p
-      ≡ usableIn q p
-  unfolding usableBits usableIn usableAt allIn
+  pub usable-in : (sets nodes : List ℕ) (p : Pair) → sets ≡ setWords (g .sets) → nodes ≡ nodeWords (orderNodes g)
+      → usableBits (g .query) sets (getD nodes (p .0) 0) (getD nodes (p .1) 0) ≡ usableIn g p
+  unfolding usableIn usableAt allIn
   usable-in sets nodes p e f =
-      rw (
-        e,
-        f,
-        node-word (orderNodes q) nodes-few (p .0),
-        node-word (orderNodes q) nodes-few (p .1),
-        usable-word q (blankingSets q) sets-few numbers (tablesAt (orderNodes q) (p .0)) (tablesAt (orderNodes q) (p .1)) (under-below (p .0))
-            (under-below (p .1)),
-        within-word q (blankingSets q) sets-few numbers (tablesAt (orderNodes q) (p .0)) (under-below (p .0)) (usableAt q p) (usable-in-numbers q p),
-        within-word q (blankingSets q) sets-few numbers (tablesAt (orderNodes q) (p .1)) (under-below (p .1)) (usableAt q p) (usable-in-numbers q p),
-      )
+      rw (e, f, node-word (orderNodes g) nodes-few (p .0), node-word (orderNodes g) nodes-few (p .1))
+      (usable-sides (g .query) (g .sets) sets-few numbers (tablesAt (orderNodes g) (p .0)) (tablesAt (orderNodes g) (p .1)) (under-below (p .0))
+      (under-below (p .1)))
 
 -- ---- kinds
 
@@ -184,7 +189,7 @@ module _ (q : Query) where
   condition-is C n = word-is (conditionBits q C) C (λ k. (λ h. condition-elim q C k h .0, λ m. condition-intro q C k m (number-elim q k (n k m))))
 
   names-is : (C : List ℕ) → ((k : ℕ) → k isIn C → k isIn conditionNumbers q) → namedBits q (bitsOf C) ≡ bitsOf (wordTables (namedBy q C))
-  names-is C n = ap (namedBits q) (sym (condition-is C n)) ∙ named-within q C (λ k m. number-elim q k (n k m))
+  names-is C n = ap (namedBits q) (sym (condition-is C n)) ∙ named-word q C
 
   no-names : bitsOf (wordTables (namedBy q [])) ≡ 0
   unfolding namedBy wordTables keep bitsOf flatMap
@@ -202,30 +207,33 @@ module _ (q : Query) where
   paired-word p (k ∷ C) false true n = rw (ne-eqb (bitsOf (k ∷ C)) 0 (some-bits k C), condition-is (k ∷ C) n, names-is (k ∷ C) n)
   paired-word p (k ∷ C) false false n = rw (ne-eqb (bitsOf (k ∷ C)) 0 (some-bits k C), no-conditions, no-names)
 
-  fits-kind : (C : List ℕ) (a b : Bool) → fitsBits (record { conditions = bitsOf C; left = a; right = b }) ≡ fitsKind C a b
-  unfolding fitsBits fitsKind
-  fits-kind [] a b = rw bits-none
-  fits-kind (k ∷ C) a b = rw (ne-eqb (bitsOf (k ∷ C)) 0 (some-bits k C))
+fits-kind : (C : List ℕ) (a b : Bool) → fitsBits (record { conditions = bitsOf C; left = a; right = b }) ≡ fitsKind C a b
+unfolding fitsBits fitsKind
+fits-kind [] a b = rw bits-none
+fits-kind (k ∷ C) a b = rw (ne-eqb (bitsOf (k ∷ C)) 0 (some-bits k C))
 
+module _ (g : Ground) where
   -- how a pair of the order is joined
-  pub planned-word : (p : Pair) → pairedBits q p (usableIn q p) ≡ joinBits q (planned q p)
+  pub planned-word : (p : Pair) → pairedBits (g .query) p (usableIn g p) ≡ joinBits (g .query) (planned g p)
   unfolding planned usableIn
-  planned-word p = paired-word p (usableAt q p) (allIn q p (p .0)) (allIn q p (p .1)) (usable-in-numbers q p)
+  planned-word p = paired-word (g .query) p (usableAt g p) (allIn g p (p .0)) (allIn g p (p .1)) (usable-in-numbers g p)
 
-  pub fits-word : (p : Pair) → fitsBits (usableIn q p) ≡ pairFits q p
+  pub fits-word : (p : Pair) → fitsBits (usableIn g p) ≡ pairFits g p
   unfolding usableIn pairFits
-  fits-word p = fits-kind (usableAt q p) (allIn q p (p .0)) (allIn q p (p .1))
+  fits-word p = fits-kind (usableAt g p) (allIn g p (p .0)) (allIn g p (p .1))
 
--- the same, of the sets and the nodes that the code holds
-pub planned-in : (q : Query) → tableCount q ≤ 8 → length (q .conditions) ≤ 64 → length (joinOrder q) ≤ 7 → (sets nodes : List ℕ) (p : Pair)
-    → sets ≡ setWords (blankingSets q) → nodes ≡ nodeWords (orderNodes q) → plannedBits q sets nodes p ≡ joinBits q (planned q p)
-unfolding plannedBits
-planned-in q small numbers few sets nodes p e f = ap (pairedBits q p) (usable-in q small numbers few sets nodes p e f) ∙ planned-word q p
+  pub planned-at : (i : ℕ) (p : Pair) → getD (g .order) i p ≡ p → getD (plannedJoins g) i (planned g p) ≡ planned g p
+  unfolding plannedJoins
+  planned-at i p e = List·getD-map (planned g) (g .order) i p ∙ ap (planned g) e
 
-pub planned-at : (q : Query) (i : ℕ) (p : Pair) → getD (joinOrder q) i p ≡ p → getD (plannedJoins q) i (planned q p) ≡ planned q p
-unfolding plannedJoins
-planned-at q i p e = List·getD-map (planned q) (joinOrder q) i p ∙ ap (planned q) e
+  pub planned-count : length (plannedJoins g) ≡ length (g .order)
+  unfolding plannedJoins
+  planned-count = length-map (g .order) (planned g)
 
-pub planned-count : (q : Query) → length (plannedJoins q) ≡ length (joinOrder q)
-unfolding plannedJoins
-planned-count q = length-map (joinOrder q) (planned q)
+  -- the same, of the sets and the nodes that the code holds
+  pub planned-in : Proper (g .query) (g .sets) → tableCount (g .query) ≤ mostTables → length (g .query .conditions) ≤ mostConditions → length (g .order) ≤ mostPairs
+      → (sets nodes : List ℕ) (p : Pair) → sets ≡ setWords (g .sets) → nodes ≡ nodeWords (orderNodes g)
+      → plannedBits (g .query) sets nodes p ≡ joinBits (g .query) (planned g p)
+  unfolding plannedBits
+  planned-in proper small numbers few sets nodes p e f =
+      ap (pairedBits (g .query) p) (usable-in g proper small numbers few sets nodes p e f) ∙ planned-word p

@@ -1,19 +1,20 @@
 -- Questions 5 to 10, put to the query: document 01, "Questions, in order". Assumes nothing.
-use mathlib.Core.Bool.{Bool, true, false, not, _&&_, _||_}
+use mathlib.Core.Bool.{Bool, true, not, _&&_}
 use mathlib.Core.List.{List, [], _∷_, _++_}
 use Prim.Native.Nat.{ℕ, suc}
 use lib.Dec.{eqb, leb, ltb}
 use lib.ListN.{length, getD}
+use Rattle.cells.specs.Limits.{mostWritten}
 use Rattle.cells.specs.declared.condition.Condition.{Condition}
 use Rattle.cells.specs.declared.condition.Side.{Side}
 use Rattle.cells.specs.declared.condition.Side.the-variants.{Column, Constant}
 use Rattle.rows.specs.Lists.{all, any, has}
 use Rattle.rows.specs.Trees.{Tree, leaf, join, tablesUnder}
 use Rattle.rows.specs.declared.kind.Kind.the-variants.{Inner, Outer, Product}
-use Rattle.plan.specs.Report.{Join, Pair, Query, tableCount, conditionAt, namedBy, joinPairs, joinOrder}
+use Rattle.plan.specs.Report.{Join, Pair, Query, tableCount, conditionAt, namedBy, joinPairs}
 use Rattle.plan.specs.Nodes.{tablesAt, treeAt, joinNodes, joinTrees}
 use Rattle.plan.specs.Sets.{blanksLeft, blanksRight}
-use Rattle.plan.specs.Plan.{crosses, usableAt, allIn, fitsKind}
+use Rattle.plan.specs.Plan.{Ground, groundOf, crosses, pairFits}
 
 -- ---- 5 and 9: how nodes are joined
 
@@ -67,7 +68,7 @@ conditionFits q ts k = columnExists q ts (k .table) (k .column) && sideExists q 
 -- 6: "Are there at most 32 conditions, each naming existing columns of tables under its join, C lines two different tables?"
 unfoldable pub question6 : Query → Bool
 question6 q =
-    leb (length (q .conditions)) 32
+    leb (length (q .conditions)) mostWritten
     && all
     (λ (j : Join). all
     (λ k. conditionFits q (tablesAt (joinNodes q) (j .left) ++ tablesAt (joinNodes q) (j .right)) (conditionAt q k)) (j .conditions))
@@ -105,6 +106,10 @@ question8 q =
 
 -- ---- 10: the kinds of the pairs
 
+-- whether the usable conditions of every pair fit one of the four kinds
+unfoldable pub kindsFit : Ground → Bool
+kindsFit g = all (pairFits g) (g .order)
+
 -- 10: "At each pair, do the usable conditions fit one of the four kinds?"
 unfoldable pub question10 : Query → Bool
-question10 q = all (λ (p : Pair). fitsKind (usableAt q p) (allIn q p (p .0)) (allIn q p (p .1))) (joinOrder q)
+question10 q = kindsFit (groundOf q)

@@ -5,9 +5,9 @@ use Prim.Native.Nat.{ℕ, zero, suc, _+_, _-_, _%_}
 use lib.Bits.{bitAnd, bitXor}
 use lib.Dec.{eqb}
 use lib.ListN.{length, getD, set, replicate}
+use Rattle.cells.specs.Limits.{mostSteps}
 use Rattle.cells.specs.Choice.{if_then_else_}
-use Rattle.plan.specs.Report.{Query, joinOrder}
-use Rattle.plan.specs.Plan.{planned}
+use Rattle.plan.specs.Plan.{Ground, planned}
 use Rattle.plan.specs.Steps.{kindNumber, pairStep, zeroStep}
 use Rattle.plan.specs.declared.join.BitJoin.{BitJoin}
 use Rattle.plan.specs.declared.step.Step.{Step}
@@ -15,7 +15,7 @@ use Rattle.plan.specs.declared.steps.StepList.{StepList}
 
 -- these steps, at most sixteen, and then zero steps
 unfoldable pub listed : List Step → StepList
-listed l = record { steps = l ++ replicate (16 - length l) zeroStep; count = length l }
+listed l = record { steps = l ++ replicate (mostSteps - length l) zeroStep; count = length l }
 
 -- a pair's step
 unfoldable pub stepBits : BitJoin → Step
@@ -26,8 +26,8 @@ unfoldable pub pushed : StepList → Step → StepList
 pushed s x = record { steps = set (s .steps) (s .count) x; count = s .count + 1 }
 
 -- the steps of the pairs
-unfoldable pub pairSteps : Query → List Step
-pairSteps q = map (λ p. pairStep (planned q p) 0) (joinOrder q)
+unfoldable pub pairSteps : Ground → List Step
+pairSteps g = map (λ p. pairStep (planned g p) 0) (g .order)
 
 -- the conditions of a set that were not applied
 unfoldable pub missingBits : ℕ → ℕ → ℕ

@@ -50,10 +50,10 @@ fn show_report(l: Listed, result: &[u16], out: &mut [u8]) {
     let Answer::Rows(rows) = answer else {
         return;
     };
-    let sets = r.sets;
+    let facts = r.facts;
     let list = l.steps;
     let steps = memory::first_steps(list);
-    let printed = whole::print_report(out, sets, r.tables, steps, r.count, result, rows);
+    let printed = whole::print_report(out, facts, steps, r.count, result, rows);
     put_print(printed, out);
 }
 
@@ -73,11 +73,12 @@ fn report_wanted(l: Listed, n: usize, cells: &[i32], work: &[u16], result: &[u16
 {
     let r = l.reply;
     let answer = r.answer;
+    let facts = r.facts;
     let list = l.steps;
     if !memory::list_as_wanted(answer, r.count, list, n) {
         return false;
     }
-    memory::as_wanted(answer, r.tables, cells, work, result)
+    memory::as_wanted(answer, facts.tables, cells, work, result)
 }
 
 // The report, with the pattern in all that is lent.
