@@ -1,5 +1,5 @@
 // An answer as a run of 64-bit numbers.
-use cells::condition::TABLES;
+use cells::limits::TABLES;
 use engine::answer::Answer;
 use plan::step::Step;
 use plan::steps::STEPS;

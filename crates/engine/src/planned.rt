@@ -1,6 +1,6 @@
 // What a run hands over: document 01, "The plan".
 use crate::answer::Answer;
-use cells::condition::TABLES;
+use cells::limits::TABLES;
 use joins::join::Joined;
 use plan::step::Step;
 use plan::steps::STEPS;

@@ -4,7 +4,7 @@ use crate::planned;
 use crate::planned::Planned;
 use crate::planned::Reply;
 use crate::prepare;
-use cells::condition::TABLES;
+use cells::limits::TABLES;
 use plan::step::Step;
 use plan::steps::STEPS;
 use plan::steps::StepList;

@@ -1,6 +1,6 @@
 // The lines of all tables, of all steps and of all rows.
 use crate::line;
-use cells::condition::TABLES;
+use cells::limits::TABLES;
 use plan::step::Step;
 ghost use mathlib.Core.List.{flatMap};
 ghost use Prim.Native.Nat.{_+_, _*_, _≤_};

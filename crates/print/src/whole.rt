@@ -1,7 +1,7 @@
 // The whole print of an answer.
 use crate::line;
 use crate::lines;
-use cells::condition::TABLES;
+use cells::limits::TABLES;
 use plan::step::Step;
 ghost use mathlib.Core.Bool.{true};
 ghost use mathlib.Core.List.{flatMap};

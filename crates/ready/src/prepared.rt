@@ -1,5 +1,5 @@
 // A query made ready for its run: questions 8, 9 and 10, the sets and the plan.
-use cells::condition::TABLES;
+use cells::limits::TABLES;
 use plan::query::StoredQuery;
 use plan::step::Step;
 use plan::steps::STEPS;
