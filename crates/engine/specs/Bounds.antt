@@ -21,7 +21,7 @@ use Rattle.rows.specs.Nullification.{Blanking, nullifyAll, finished, planRows}
 use Rattle.rows.specs.NullificationLaws.{nullifyRow, nullifyAll-map}
 use Rattle.plan.specs.Report.{Table, Report, Query, queryOf, tableCount, tableNumbers, joinOrder}
 use Rattle.plan.specs.Nodes.{joinTrees, joinTree}
-use Rattle.plan.specs.Plan.{plannedJoins, planTrees, planTree, missing, asks, blankings}
+use Rattle.plan.specs.Plan.{groundOf, plannedJoins, planTrees, planTree, missing, asks, blankings}
 use Rattle.plan.specs.PairWordLaws.{planned-count}
 use Rattle.plan.specs.PlanLaws.{plan-matched, order-built, plan-shaped}
 use Rattle.plan.specs.Questions.{lowerSides, sidesOf, noneTwice, wellBuilt, question9, question10}
@@ -81,23 +81,23 @@ unfolding bestMatchStep
 best-one [] = omega arith
 best-one (s ∷ L) = omega arith
 
-pub plan-steps : (q : Query) (counts : List ℕ) → length (stepsOf q counts) ≤ length (joinOrder q) + tableCount q + 1
+pub plan-steps : (q : Query) (counts : List ℕ) → length (stepsOf (groundOf q) counts) ≤ length (joinOrder q) + tableCount q + 1
 unfolding stepsOf blankings tableNumbers
 plan-steps q counts =
-    let A = zipWith pairStep (plannedJoins q) counts in
-    let B = map blankingStep (blankings q) in
-    let C = bestMatchStep (blankings q) in
+    let A = zipWith pairStep (plannedJoins (groundOf q)) counts in
+    let B = map blankingStep (blankings (groundOf q)) in
+    let C = bestMatchStep (blankings (groundOf q)) in
     omega (
       arith,
       length-append (A ++ B) C,
       length-append A B,
-      zip-fewer pairStep (plannedJoins q) counts,
-      planned-count q,
-      length-map (blankings q) blankingStep,
-      keep-fewer (asks q) (map (λ (t : ℕ). (t, missing q t)) (range 0 (tableCount q))),
-      length-map {B = Blanking ℕ} (range 0 (tableCount q)) (λ (t : ℕ). (t, missing q t)),
+      zip-fewer pairStep (plannedJoins (groundOf q)) counts,
+      planned-count (groundOf q),
+      length-map (blankings (groundOf q)) blankingStep,
+      keep-fewer asks (map (λ (t : ℕ). (t, missing (groundOf q) t)) (range 0 (tableCount q))),
+      length-map {B = Blanking ℕ} (range 0 (tableCount q)) (λ (t : ℕ). (t, missing (groundOf q) t)),
       length-range 0 (tableCount q),
-      best-one (blankings q),
+      best-one (blankings (groundOf q)),
     )
 
 module _ (ls : List Line) (accepted : firstNo sharedQuestions (reportOf ls) ≡ none) where
@@ -167,15 +167,15 @@ module _ (ls : List Line) (accepted : firstNo sharedQuestions (reportOf ls) ≡ 
     pub report-few : T (question11 r) → length (reportRows r) ≤ 256
     unfolding question11 withinLimit results planTree planTrees reportRows runRows planRows
     report-few h =
-        let y = within-small (database r) few-each (planTree q) (results-whole (database r) few-each q (plan-matched q) built h) in
-        let z : length (rowsOf (database r) (planTree q)) ≤ 256 = leb-yes y in
-        omega (arith, finished-fewer (database r) (blankings q) (rowsOf (database r) (planTree q)), z)
+        let y = within-small (database r) few-each (planTree (groundOf q)) (results-whole (database r) few-each q (plan-matched (groundOf q)) built h) in
+        let z : length (rowsOf (database r) (planTree (groundOf q))) ≤ 256 = leb-yes y in
+        omega (arith, finished-fewer (database r) (blankings (groundOf q)) (rowsOf (database r) (planTree (groundOf q))), z)
 
     pub report-wide : (row : Row) → row isIn reportRows r → length row ≡ tableCount q
     unfolding reportRows runRows planRows database databaseOf
-    report-wide = finished-wide (database r) (tableCount q) (blankings q) (rowsOf (database r) (planTree q))
-        (λ row m. rows-valid laws (planTree q)
-        (plan-shaped q laws (database-width q (rowsIn r) (cellsOf r) small) (lawful-names q (rowsIn r) (cellsOf r) small) built) row m .len)
+    report-wide = finished-wide (database r) (tableCount q) (blankings (groundOf q)) (rowsOf (database r) (planTree (groundOf q)))
+        (λ row m. rows-valid laws (planTree (groundOf q))
+        (plan-shaped (groundOf q) laws (database-width q (rowsIn r) (cellsOf r) small) (lawful-names q (rowsIn r) (cellsOf r) small) built) row m .len)
 
 -- ---- a text that is answered
 

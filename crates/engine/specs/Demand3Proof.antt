@@ -13,7 +13,7 @@ use Rattle.rows.specs.Nullification.{Blanking}
 use Rattle.rows.specs.Due.{Reads}
 use Rattle.plan.specs.Nodes.{joinTree}
 use Rattle.plan.specs.Report.{Table, Join, Pair, Report, queryOf, tableCount, joinPairs}
-use Rattle.plan.specs.Plan.{blankings}
+use Rattle.plan.specs.Plan.{groundOf, blankings}
 use Rattle.plan.specs.Questions.{question5, question9, question10, noneOrBuilt, wellBuilt}
 use Rattle.plan.specs.QueryLaws.{Accepted}
 use Rattle.plan.specs.StepLists.{StepList, own-list}
@@ -46,7 +46,7 @@ module _ (ls : List Line) (accepted : firstNo sharedQuestions (reportOf ls) ≡ 
   few = few-rows (reportOf ls) (all-yes sharedQuestions (reportOf ls) accepted (3, λ (r : Report). question3 r) (here refl))
 
   -- both runs of one accepted report whose order question 9 does not turn down
-  pub report-rows : T (question9 (queryOf (reportOf ls))) → (L : List (Blanking ℕ)) → StepList (queryOf (reportOf ls)) L
+  pub report-rows : T (question9 (queryOf (reportOf ls))) → (L : List (Blanking ℕ)) → StepList (groundOf (queryOf (reportOf ls))) L
       → runRows (reportOf ls) L ≡ directRows (reportOf ls)
   report-rows = run-rows (reportOf ls) (report-accepted ls accepted) few
 
@@ -68,7 +68,7 @@ demand-3 first second a b s L list =
 -- the engine's own list is one of these
 pub demand-3-own-list : (first second : Bytes) (a b : List Line) → SameQuery first second a b → reportRows (reportOf b) ≡ directRows (reportOf a)
 unfolding reportRows
-demand-3-own-list first second a b s = demand-3 first second a b s (blankings (queryOf (reportOf b))) (own-list (queryOf (reportOf b)))
+demand-3-own-list first second a b s = demand-3 first second a b s (blankings (groundOf (queryOf (reportOf b)))) (own-list (groundOf (queryOf (reportOf b))))
 
 -- ---- the tree's own order
 
@@ -87,7 +87,7 @@ own-order-admitted r five (inr e) = rw e (built (joinPairs (queryOf r)) five)
 
 -- the tree's own order, with or without P lines, is admitted, and gives the rows of the tree read directly
 pub own-order-rows : (text : Bytes) (ls : List Line) → textLines text ≡ some ls → firstNo sharedQuestions (reportOf ls) ≡ none → OwnOrder ls
-    → (L : List (Blanking ℕ)) → StepList (queryOf (reportOf ls)) L → runRows (reportOf ls) L ≡ directRows (reportOf ls)
+    → (L : List (Blanking ℕ)) → StepList (groundOf (queryOf (reportOf ls))) L → runRows (reportOf ls) L ≡ directRows (reportOf ls)
 own-order-rows text ls read accepted own L list =
     report-rows ls accepted (own-order-admitted (reportOf ls) (report-accepted ls accepted .five) own) L list
 

@@ -8,7 +8,7 @@ use lib.ListN.{length, getD, drop, replicate}
 use Rattle.rows.specs.Trees.{Database}
 use Rattle.plan.specs.Report.{joinOrder}
 use Rattle.plan.specs.Sets.{blankingSets}
-use Rattle.plan.specs.Plan.{planTrees, blankings}
+use Rattle.plan.specs.Plan.{groundOf, planTrees, blankings}
 use Rattle.plan.specs.Steps.{stepsOf}
 use Rattle.plan.specs.Questions.{question8, question9, question10}
 use Rattle.plan.specs.Stored.{queryIn}
@@ -49,8 +49,8 @@ module _ (D : Database ℕ) (q : StoredQuery) where
     pub counts : List ℕ
     pub joined : Joined
     pub long : length counts ≡ 8
-    pub ran : PlanRan D (planTrees (queryIn q)) (q .«table_count») (q .«table_count» - 1) (blankings (queryIn q)) counts w w′ joined
-    pub handed : r ≡ handedOver q sets (listed (stepsOf (queryIn q) (replicate (length (joinOrder (queryIn q))) 0))) counts joined
+    pub ran : PlanRan D (planTrees (groundOf (queryIn q))) (q .«table_count») (q .«table_count» - 1) (blankings (groundOf (queryIn q))) counts w w′ joined
+    pub handed : r ≡ handedOver q sets (listed (stepsOf (groundOf (queryIn q)) (replicate (length (joinOrder (queryIn q))) 0))) counts joined
 
   -- questions 9, 10 and 11
   pub record QueryRun (w w′ : List ℕ) (r : Planned) : Type 0 where

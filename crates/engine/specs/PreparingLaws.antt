@@ -14,7 +14,7 @@ use borrow.Author.Tests.{lt-ltb, le-ltb, le-leb, lt-leb}
 use Rattle.cells.specs.BoolLaws.{not-both}
 use Rattle.plan.specs.Report.{joinOrder}
 use Rattle.plan.specs.Sets.{blankingSets}
-use Rattle.plan.specs.Plan.{blankings}
+use Rattle.plan.specs.Plan.{groundOf, blankings}
 use Rattle.plan.specs.Steps.{stepsOf}
 use Rattle.plan.specs.Questions.{question5, question9}
 use Rattle.plan.specs.Stored.{queryIn}
@@ -96,7 +96,7 @@ module _ (q : StoredQuery) (readable : Readable q) (five : T (question5 (queryIn
     (w w′ v v′ : List ℕ) (long : 16384 ≤ length w) (wide : 2048 ≤ length v) (r : Run) (h : Planned) where
   -- the plan of a query that is ready
   abbrev plan : StepList
-  plan = listed (stepsOf (queryIn q) (replicate (length (joinOrder (queryIn q))) 0))
+  plan = listed (stepsOf (groundOf (queryIn q)) (replicate (length (joinOrder (queryIn q))) 0))
 
   -- the run of what was made ready
   abbrev Ran : Prepared → Type 0
@@ -112,7 +112,7 @@ module _ (q : StoredQuery) (readable : Readable q) (five : T (question5 (queryIn
         counts = r .counts;
         joined = a;
         long = eight;
-        ran = lent-ran q plan refl readable five nine (q .«table_count») (q .«table_count» - 1) (length (blankings (queryIn q))) refl paired refl
+        ran = lent-ran q plan refl readable five nine (q .«table_count») (q .«table_count» - 1) (length (blankings (groundOf (queryIn q)))) refl paired refl
             cells n enough r w w′ v v′ a long wide run ended;
         handed = handed;
       }

@@ -25,7 +25,7 @@ use Rattle.plan.specs.Report.{Report, Query, queryOf, tableCount, tableNumbers,
 use Rattle.plan.specs.Nodes.{treeOf, treesOf, treeAt, lastTree}
 use Rattle.plan.specs.NodeLaws.{grown-length}
 use Rattle.plan.specs.Sets.{Sets, setOf, blankingSets}
-use Rattle.plan.specs.Plan.{plannedJoins, planTrees, planTree, blankings}
+use Rattle.plan.specs.Plan.{groundOf, plannedJoins, planTrees, planTree, blankings}
 use Rattle.plan.specs.FoldWords.{blanking-proper}
 use Rattle.plan.specs.PairWordLaws.{planned-count}
 use Rattle.plan.specs.Questions.{question8, question9, question10}
@@ -86,12 +86,12 @@ handedBy q n counts (J.Rows k) = record {
   answer = Rows k;
   tables = n;
   sets = setWords (blankingSets q);
-  plan = withCounts (listed (stepsOf q (replicate (length (joinOrder q)) 0))) counts (n - 1);
+  plan = withCounts (listed (stepsOf (groundOf q) (replicate (length (joinOrder q)) 0))) counts (n - 1);
 }
 handedBy q n counts J.TooMany = turnedDown 11
 
 handed-by : (s : StoredQuery) (counts : List ℕ) (j : Joined)
-    → handedOver s (setWords (blankingSets (queryIn s))) (listed (stepsOf (queryIn s) (replicate (length (joinOrder (queryIn s))) 0))) counts j
+    → handedOver s (setWords (blankingSets (queryIn s))) (listed (stepsOf (groundOf (queryIn s)) (replicate (length (joinOrder (queryIn s))) 0))) counts j
     ≡ handedBy (queryIn s) (s .«table_count») counts j
 unfolding handedOver
 handed-by s counts (J.Rows k) = refl
@@ -178,7 +178,7 @@ module _ {bs : Bytes} {s : StoredQuery} (p : Passed bs s) (passed : refusal bs �
       n = tableCount q
 
       abbrev trees : List (Tree ℕ)
-      trees = planTrees q
+      trees = planTrees (groundOf q)
 
       yes-9 : T (question9 q)
       yes-9 = rw nine tt
@@ -196,7 +196,7 @@ module _ {bs : Bytes} {s : StoredQuery} (p : Passed bs s) (passed : refusal bs �
       unfolding planTrees treesOf tableNumbers
       nodes =
           let a : length {A = Tree ℕ} (map leaf (tableNumbers q)) ≡ n = length-map (tableNumbers q) leaf ∙ length-range 0 n in
-          grown-length treeOf (map leaf (tableNumbers q)) (plannedJoins q) ∙ ap₂ _+_ a (planned-count q)
+          grown-length treeOf (map leaf (tableNumbers q)) (plannedJoins (groundOf q)) ∙ ap₂ _+_ a (planned-count (groundOf q))
 
       -- the results of the pairs
       abbrev found : List (List Row)
@@ -256,16 +256,16 @@ module _ {bs : Bytes} {s : StoredQuery} (p : Passed bs s) (passed : refusal bs �
             ∙ sym (List·getD-map (λ (rows : List Row). length rows) found i (rowsOf (database report) (leaf 0))))
 
         -- the plan with its counts
-        steps-all : withCounts (listed (stepsOf q (replicate (length (joinOrder q)) 0))) counts (n - 1) ≡ listed (reportSteps report)
+        steps-all : withCounts (listed (stepsOf (groundOf q) (replicate (length (joinOrder q)) 0))) counts (n - 1) ≡ listed (reportSteps report)
         unfolding reportSteps
         steps-all =
             let e : n - 1 ≡ length (joinOrder q) = omega (arith, pairs) in
-            ap (withCounts (listed (stepsOf q (replicate (length (joinOrder q)) 0))) counts) e
+            ap (withCounts (listed (stepsOf (groundOf q) (replicate (length (joinOrder q)) 0))) counts) e
             ∙ rows-counted q counts (omega (arith, pairs, long, tables-few))
-            ∙ ap (λ (ns : List ℕ). listed (stepsOf q ns)) counts-all
+            ∙ ap (λ (ns : List ℕ). listed (stepsOf (groundOf q) ns)) counts-all
 
         -- the rows of the last node
-        last-node : treeAt trees (n + (n - 1) - 1) ≡ planTree q
+        last-node : treeAt trees (n + (n - 1) - 1) ≡ planTree (groundOf q)
         unfolding planTree lastTree
         last-node = ap (treeAt trees) (omega (arith, nodes, pairs))
 
@@ -276,14 +276,14 @@ module _ {bs : Bytes} {s : StoredQuery} (p : Passed bs s) (passed : refusal bs �
       tables-all = sym (length-map (blankingSets q) bitsOf ∙ blanking-proper q .each)
 
       -- the plan run
-      ran-gives : {r : Planned} (counts : List ℕ) (j : Joined) → length counts ≡ 8 → PlanRan W trees n (n - 1) (blankings q) counts w w′ j
+      ran-gives : {r : Planned} (counts : List ℕ) (j : Joined) → length counts ≡ 8 → PlanRan W trees n (n - 1) (blankings (groundOf q)) counts w w′ j
           → r ≡ handedBy q n counts j → Reported (reportOutcome bs) w w′ r
       unfolding plannedFor resultAfter reportAnswer written flatRows
       ran-gives counts _ long (ran m few each x) e =
-          let f : finished W (blankings q) (rowsOf W (treeAt trees (n + (n - 1) - 1))) ≡ finished W (blankings q) (rowsOf W (planTree q)) =
-          ap (λ (E : Tree ℕ). finished W (blankings q) (rowsOf W E)) (last-node counts long few each) in
+          let f : finished W (blankings (groundOf q)) (rowsOf W (treeAt trees (n + (n - 1) - 1))) ≡ finished W (blankings (groundOf q)) (rowsOf W (planTree (groundOf q))) =
+          ap (λ (E : Tree ℕ). finished W (blankings (groundOf q)) (rowsOf W E)) (last-node counts long few each) in
           let c : m ≡ length (reportRows report) = x .count ∙ ap length f ∙ report-count p passed yes-8 more yes-9 in
-          let v : flatRows n (finished W (blankings q) (rowsOf W (treeAt trees (n + (n - 1) - 1)))) ≡ flatMap (λ (row : Row). row) (reportRows report) =
+          let v : flatRows n (finished W (blankings (groundOf q)) (rowsOf W (treeAt trees (n + (n - 1) - 1)))) ≡ flatMap (λ (row : Row). row) (reportRows report) =
           ap (flatMap (take n)) f ∙ report-numbers p passed yes-8 more yes-9 in
           reported (answered (reportAnswer report)) (outcome-rows nine ten (eleven-yes counts long few each))
           (e ∙ rw (c, sets-all, steps-all counts long few each, tables-all)) (x .numbers ∙ rw v)
@@ -312,9 +312,9 @@ module _ {bs : Bytes} {s : StoredQuery} (p : Passed bs s) (passed : refusal bs �
           ten-is true e =
               let y = x .rows a e in
               ran-gives before after run room (sym (nine-kept p) ∙ a) (sym (ap question10 same) ∙ e) w w′ (y .counts) (y .joined) (y .long)
-              (subst (λ (D : Database ℕ). PlanRan D (planTrees q) (tableCount q) (tableCount q - 1) (blankings q) (y .counts) w w′ (y .joined)) whole
-              (subst (λ (k : ℕ). PlanRan Z (planTrees q) k (k - 1) (blankings q) (y .counts) w w′ (y .joined)) (tables-kept p)
-              (subst (λ (z : Query). PlanRan Z (planTrees z) (s .«table_count») (s .«table_count» - 1) (blankings z) (y .counts) w w′ (y .joined)) same
+              (subst (λ (D : Database ℕ). PlanRan D (planTrees (groundOf q)) (tableCount q) (tableCount q - 1) (blankings (groundOf q)) (y .counts) w w′ (y .joined)) whole
+              (subst (λ (k : ℕ). PlanRan Z (planTrees (groundOf q)) k (k - 1) (blankings (groundOf q)) (y .counts) w w′ (y .joined)) (tables-kept p)
+              (subst (λ (z : Query). PlanRan Z (planTrees (groundOf z)) (s .«table_count») (s .«table_count» - 1) (blankings (groundOf z)) (y .counts) w w′ (y .joined)) same
               (y .ran))))
               (y .handed ∙ handed-by s (y .counts) (y .joined)
               ∙ ap₂ (λ (z : Query) (k : ℕ). handedBy z k (y .counts) (y .joined)) same (tables-kept p))

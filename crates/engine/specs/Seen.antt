@@ -18,7 +18,7 @@ use Rattle.rows.specs.Shapes.{Lawful, Shaped}
 use Rattle.rows.specs.TreeLaws.{rows-valid}
 use Rattle.plan.specs.Report.{Table, Report, noCondition, queryOf, tableCount, conditionAt}
 use Rattle.plan.specs.Nodes.{joinTree}
-use Rattle.plan.specs.Plan.{planTree}
+use Rattle.plan.specs.Plan.{groundOf, planTree}
 use Rattle.plan.specs.Questions.{question9}
 use Rattle.plan.specs.QueryLaws.{Accepted, query-shaped}
 use Rattle.plan.specs.PlanLaws.{order-built, plan-shaped}
@@ -107,12 +107,12 @@ module _ (ls : List Line) (early : (tablesOf ls) .0 ≡ []) (fits : length ((tab
 
     -- demand 3 over work space: the pairs' rows after any list of blanking steps that document 01 allows, and the tree's rows, are the
     -- same numbers in the result buffer
-    module _ (ok : Accepted (queryOf r)) (nine : T (question9 (queryOf r))) (L : List (Blanking ℕ)) (list : StepList (queryOf r) L) where
+    module _ (ok : Accepted (queryOf r)) (nine : T (question9 (queryOf r))) (L : List (Blanking ℕ)) (list : StepList (groundOf (queryOf r)) L) where
       abbrev laws : Lawful (databaseOf (queryOf r) (rowsIn r) (cellsOf r))
       laws = lawful (queryOf r) (rowsIn r) (cellsOf r) small
 
-      plan-tree : Shaped laws (planTree (queryOf r))
-      plan-tree = plan-shaped (queryOf r) laws (database-width (queryOf r) (rowsIn r) (cellsOf r) small)
+      plan-tree : Shaped laws (planTree (groundOf (queryOf r)))
+      plan-tree = plan-shaped (groundOf (queryOf r)) laws (database-width (queryOf r) (rowsIn r) (cellsOf r) small)
           (lawful-names (queryOf r) (rowsIn r) (cellsOf r) small) (order-built (queryOf r) (ok .five) nine)
 
       query-tree : Shaped laws (joinTree (queryOf r))
@@ -120,10 +120,10 @@ module _ (ls : List Line) (early : (tablesOf ls) .0 ≡ []) (fits : length ((tab
           (lawful-names (queryOf r) (rowsIn r) (cellsOf r) small)
 
       pub buffers-agree : flatMap (take (tableCount (queryOf r)))
-          (finished (workspace run (s .layout) (s .conditions)) L (rowsOf (workspace run (s .layout) (s .conditions)) (planTree (queryOf r))))
+          (finished (workspace run (s .layout) (s .conditions)) L (rowsOf (workspace run (s .layout) (s .conditions)) (planTree (groundOf (queryOf r)))))
           ≡ flatMap (take (tableCount (queryOf r))) (ordered (rowsOf (workspace run (s .layout) (s .conditions)) (joinTree (queryOf r))))
       unfolding runRows planRows directRows finished
       buffers-agree =
-          numbers-seen (planTree (queryOf r)) plan-tree L
+          numbers-seen (planTree (groundOf (queryOf r))) plan-tree L
           ∙ ap (flatMap (λ (row : Row). row)) (run-rows r ok small nine L list)
           ∙ sym (numbers-seen (joinTree (queryOf r)) query-tree [])

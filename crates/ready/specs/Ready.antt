@@ -6,6 +6,7 @@ use Prim.Native.Nat.{ℕ}
 use lib.Dec.{leb}
 use lib.ListN.{length, replicate}
 use Rattle.plan.specs.Report.{joinOrder}
+use Rattle.plan.specs.Plan.{groundOf}
 use Rattle.plan.specs.Sets.{blankingSets}
 use Rattle.plan.specs.Steps.{stepsOf}
 use Rattle.plan.specs.Questions.{question8, question9, question10}
@@ -32,7 +33,7 @@ readyFor q = record {
   run = startRun q;
   number = 0;
   sets = setWords (blankingSets (queryIn q));
-  plan = listed (stepsOf (queryIn q) (replicate (length (joinOrder (queryIn q))) 0));
+  plan = listed (stepsOf (groundOf (queryIn q)) (replicate (length (joinOrder (queryIn q))) 0));
   query = q;
 }
 

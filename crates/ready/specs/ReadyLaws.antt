@@ -9,6 +9,7 @@ use lib.ListN.{length, replicate}
 use mir.Facts.{and-yes}
 use Rattle.cells.specs.BoolLaws.{not-both}
 use Rattle.plan.specs.Report.{joinOrder}
+use Rattle.plan.specs.Plan.{groundOf}
 use Rattle.plan.specs.Sets.{blankingSets}
 use Rattle.plan.specs.Steps.{stepsOf}
 use Rattle.plan.specs.Questions.{question8, question9, question10}
@@ -68,7 +69,7 @@ module _ (q : StoredQuery) {c : Bool} (g : c ≡ (leb (q .«pair_count») 7 && q
 
 -- what is ready, part by part
 pub ready-parts : (q : StoredQuery) {r : Run} {sets : List ℕ} {s : StepList} → r ≡ startRun q → sets ≡ setWords (blankingSets (queryIn q))
-    → s ≡ listed (stepsOf (queryIn q) (replicate (length (joinOrder (queryIn q))) 0))
+    → s ≡ listed (stepsOf (groundOf (queryIn q)) (replicate (length (joinOrder (queryIn q))) 0))
     → record { run = r; number = 0; sets = sets; plan = s; query = q } ≡ readyFor q
 unfolding readyFor
 ready-parts q e f g = rw (e, f, g)
