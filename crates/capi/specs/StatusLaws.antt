@@ -1,12 +1,12 @@
 -- What a status tells: 0 is an answer's, 1 to 11 are those of the refusals, and 255 says that the run for the answer is too short.
 -- Assumes nothing.
-use mathlib.Core.Path.{_≡_, refl, sym, ap, _∙_}
+use mathlib.Core.Path.{_≡_, ap, _∙_}
 use mathlib.Core.Logic.{_⊎_, inl, inr}
 use mathlib.Core.List.{List, [], _∷_}
-use Prim.Native.Nat.{ℕ, _≤_, _<_}
-use lib.Dec.{ltb}
+use Prim.Native.Nat.{ℕ, _≤_}
 use lib.ListN.{length, replicate}
 use borrow.Author.Tests.{le-ltb}
+use Rattle.cells.specs.Limits.{mostSteps}
 use Rattle.plan.specs.Steps.{zeroStep}
 use Rattle.text.specs.Bytes.{Bytes}
 use Rattle.engine.specs.Calls.{Lent, reportCall, directCall}
@@ -14,7 +14,7 @@ use Rattle.engine.specs.CallLaws.{Decided, report-decided, direct-decided}
 use Rattle.engine.specs.declared.answer.Answer.{Answer}
 use Rattle.engine.specs.Gave.{widthOf}
 use Rattle.engine.specs.declared.answer.Answer.the-variants.{Rows, Refused}
-use Rattle.capi.specs.Numbers.{statusOf, rowsOf}
+use Rattle.capi.specs.Numbers.{answerRoom, statusOf, rowsOf}
 use Rattle.capi.specs.Entries.{entry, reportNumbers, reportEntry, directEntry}
 
 -- a status tells which answer there is
@@ -32,11 +32,11 @@ unfolding entry
 with-room least a numbers after before run h = rw (le-ltb (length run) least h)
 
 module _ (text : Bytes) (m : Lent) (run : List ℕ) where
-  pub report-told : 92 ≤ length run → Told (reportCall text m (replicate 16 zeroStep) .answer) (reportEntry text m run .status)
+  pub report-told : answerRoom ≤ length run → Told (reportCall text m (replicate mostSteps zeroStep) .answer) (reportEntry text m run .status)
   unfolding reportEntry
   report-told h =
-      let c = reportCall text m (replicate 16 zeroStep) in
-      told (c .answer) _ (with-room 92 (c .answer) (reportNumbers c) (c .lent) m run h) (report-decided text m (replicate 16 zeroStep))
+      let c = reportCall text m (replicate mostSteps zeroStep) in
+      told (c .answer) _ (with-room answerRoom (c .answer) (reportNumbers c) (c .lent) m run h) (report-decided text m (replicate mostSteps zeroStep))
 
   pub direct-told : 2 ≤ length run → Told (directCall text m .answer) (directEntry text m run .status)
   unfolding directEntry

@@ -12,12 +12,13 @@ use mir.Facts.{and-yes, leb-yes}
 use Rattle.cells.specs.Row.{Row}
 use Rattle.rows.specs.Lists.{all}
 use Rattle.plan.specs.Report.{Report}
+use Rattle.plan.specs.Facts.{noFacts}
 use Rattle.plan.specs.declared.step.Step.{Step}
 use Rattle.text.specs.Bytes.{Bytes}
 use Rattle.text.specs.Reading.{readReport}
 use Rattle.run.specs.Runs.{directRows}
 use Rattle.engine.specs.Answers.{Outcome, refused, answered, Question, firstNo, sharedQuestions, orderQuestions, reportQuestions, directQuestions, outcomeFor, outcomeBy, ReportAnswer, reportAnswer, reportOutcome, directOutcome}
-use Rattle.engine.specs.Calls.{Lent, noSets, question1, question1Direct, ReportCall, reportAfter, reportCall, DirectCall, directAfter, directCall}
+use Rattle.engine.specs.Calls.{Lent, question1, question1Direct, ReportCall, reportAfter, reportCall, DirectCall, directAfter, directCall}
 use Rattle.engine.specs.declared.answer.Answer.{Answer}
 use Rattle.engine.specs.declared.answer.Answer.the-variants.{Rows, Refused}
 
@@ -78,7 +79,7 @@ module _ (text : Bytes) (m : Lent) where
 
       first : (b : Bool) → Decided ((elim b as (λ z. ReportCall) [
         | true ↦ reportAfter (reportOutcome text) m steps
-        | false ↦ record { answer = Refused 1; tables = 0; sets = noSets; count = 0; lent = m; steps = steps }
+        | false ↦ record { answer = Refused 1; facts = noFacts; count = 0; lent = m; steps = steps }
       ]) .answer)
       first true = after (reportOutcome text) (report-number text)
       first false = inr (1, refl, lit≤ tt, lit≤ tt)

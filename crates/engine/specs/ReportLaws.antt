@@ -56,7 +56,7 @@ use Rattle.accept.specs.AcceptLaws.{passed-tables}
 use Rattle.engine.specs.Answers.{Outcome, refused, answered, Question, firstNo, sharedQuestions, orderQuestions, reportQuestions, ReportAnswer, reportAnswer, reportOutcome}
 use Rattle.engine.specs.AnswerLaws.{outcome-answered, outcome-refused}
 use Rattle.engine.specs.Asked.{refused-early, passed-early, eight-no, eight-yes}
-use Rattle.engine.specs.Calls.{noSets, written}
+use Rattle.engine.specs.Calls.{factsOf, written}
 use Rattle.engine.specs.Kept.{here, eight-kept, nine-kept, query-kept, tables-kept, run-kept}
 use Rattle.engine.specs.Planning.{turnedDown, withCounts, handedOver, StepsRun, QueryRun, QueryAsked, plannedFor, resultAfter, Reported}
 use Rattle.engine.specs.PlanningLaws.{rows-counted}
@@ -84,8 +84,7 @@ report-early bs n w e f = reported (refused n) (refused-early last reportAnswer 
 abbrev handedBy : Query → ℕ → List ℕ → Joined → Planned
 handedBy q n counts (J.Rows k) = record {
   answer = Rows k;
-  tables = n;
-  sets = setWords (blankingSets q);
+  facts = record { tables = n; sets = setWords (blankingSets q) };
   plan = withCounts (listed (stepsOf (groundOf q) (replicate (length (joinOrder q)) 0))) counts (n - 1);
 }
 handedBy q n counts J.TooMany = turnedDown 11
@@ -98,8 +97,8 @@ handed-by s counts (J.Rows k) = refl
 handed-by s counts J.TooMany = refl
 
 -- each table's set as bits, and 0 for the tables that there are not
-sets-words : (S : Sets) → length S ≤ 8 → setWords S ≡ map bitsOf S ++ drop (length (map bitsOf S)) noSets
-unfolding setWords wordsTo setOf noSets bitsOf range
+sets-words : (S : Sets) → length S ≤ 8 → setWords S ≡ map bitsOf S ++ replicate (8 - length (map bitsOf S)) 0
+unfolding setWords wordsTo setOf bitsOf range
 sets-words [] h = refl
 sets-words (a ∷ []) h = refl
 sets-words (a ∷ b ∷ []) h = refl
@@ -269,7 +268,7 @@ module _ {bs : Bytes} {s : StoredQuery} (p : Passed bs s) (passed : refusal bs �
         unfolding planTree lastTree
         last-node = ap (treeAt trees) (omega (arith, nodes, pairs))
 
-      sets-all : setWords (blankingSets q) ≡ map bitsOf (blankingSets q) ++ drop (length (map bitsOf (blankingSets q))) noSets
+      sets-all : setWords (blankingSets q) ≡ map bitsOf (blankingSets q) ++ replicate (8 - length (map bitsOf (blankingSets q))) 0
       sets-all = sets-words (blankingSets q) (omega (arith, blanking-proper q .each, tables-few))
 
       tables-all : n ≡ length (map bitsOf (blankingSets q))
@@ -278,7 +277,7 @@ module _ {bs : Bytes} {s : StoredQuery} (p : Passed bs s) (passed : refusal bs �
       -- the plan run
       ran-gives : {r : Planned} (counts : List ℕ) (j : Joined) → length counts ≡ 8 → PlanRan W trees n (n - 1) (blankings (groundOf q)) counts w w′ j
           → r ≡ handedBy q n counts j → Reported (reportOutcome bs) w w′ r
-      unfolding plannedFor resultAfter reportAnswer written flatRows
+      unfolding plannedFor factsOf resultAfter reportAnswer written flatRows
       ran-gives counts _ long (ran m few each x) e =
           let f : finished W (blankings (groundOf q)) (rowsOf W (treeAt trees (n + (n - 1) - 1))) ≡ finished W (blankings (groundOf q)) (rowsOf W (planTree (groundOf q))) =
           ap (λ (E : Tree ℕ). finished W (blankings (groundOf q)) (rowsOf W E)) (last-node counts long few each) in

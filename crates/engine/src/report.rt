@@ -4,9 +4,9 @@ use crate::planned;
 use crate::planned::Planned;
 use crate::planned::Reply;
 use crate::prepare;
-use cells::limits::TABLES;
+use cells::limits::STEPS;
+use plan::facts;
 use plan::step::Step;
-use plan::steps::STEPS;
 use plan::steps::StepList;
 use ready::prepared;
 ghost use mathlib.Core.Path.{_≡_};
@@ -38,8 +38,7 @@ pub fn refused(number: u8) -> Reply
 {
     Reply {
         answer: Answer::Refused(number),
-        tables: 0,
-        sets: [0u64; TABLES],
+        facts: facts::no_facts(),
         count: 0,
     }
 }
@@ -55,8 +54,7 @@ pub fn report_into(
 ) -> Reply
     ensures { λ r. ⌜ record {
       answer = r .answer;
-      tables = r .tables;
-      sets = r .sets;
+      facts = r .facts;
       count = r .count;
       lent = record { cells = now (cells .exit); work = now (work .exit); result = now (result .exit) };
       steps = now (steps .exit);
@@ -84,15 +82,14 @@ pub fn by_value(r: Reply, steps: [Step; STEPS]) -> Planned
     ensures { λ x. ⌜ x ≡ byValue r steps ⌝ }
 {
     let answer = r.answer;
-    let sets = r.sets;
+    let facts = r.facts;
     let plan = StepList {
         steps,
         count: r.count,
     };
     Planned {
         answer,
-        tables: r.tables,
-        sets,
+        facts,
         plan,
     }
 }
@@ -102,8 +99,7 @@ pub fn by_value(r: Reply, steps: [Step; STEPS]) -> Planned
 pub fn report(text: &[u8], cells: &mut [i32], work: &mut [u16], result: &mut [u16]) -> Planned
     ensures { λ r. ⌜ record {
       answer = r .answer;
-      tables = r .tables;
-      sets = r .sets;
+      facts = r .facts;
       count = r .plan .count;
       lent = record { cells = now (cells .exit); work = now (work .exit); result = now (result .exit) };
       steps = r .plan .steps;

@@ -1,8 +1,8 @@
 // A query made ready for its run: questions 8, 9 and 10, the sets and the plan.
+use cells::limits::STEPS;
 use cells::limits::TABLES;
 use plan::query::StoredQuery;
 use plan::step::Step;
-use plan::steps::STEPS;
 use plan::steps::StepList;
 use runner::state::Run;
 ghost use mathlib.Core.Path.{_≡_};

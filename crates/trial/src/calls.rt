@@ -67,10 +67,10 @@ fn show_report(p: Planned, result: &[u16], out: &mut [u8]) {
     let Answer::Rows(rows) = answer else {
         return;
     };
-    let sets = p.sets;
+    let facts = p.facts;
     let list = p.plan;
     let steps = list.steps;
-    let printed = whole::print_report(out, sets, p.tables, steps, list.count, result, rows);
+    let printed = whole::print_report(out, facts, steps, list.count, result, rows);
     put_print(printed, out);
 }
 

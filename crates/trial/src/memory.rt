@@ -1,7 +1,7 @@
 // Lent memory: filled with a pattern before a call, and looked at behind it.
+use cells::limits::STEPS;
 use engine::answer::Answer;
 use plan::step::Step;
-use plan::steps::STEPS;
 
 // The numbers of the pattern are PATTERN and those behind it, below twice PATTERN: no 0, no row number, no blank.
 const PATTERN: usize = 20000;

@@ -2,7 +2,7 @@
 // line. Where a name begins with `=`, the answers are printed too. What follows that mark, or begins the name, chooses the lent memory:
 // `-` and c, w or r, the cell run, the work buffer or the result buffer one number shorter than question 1 wants; `+`, all of them
 // larger; anything else, what question 1 wants.
-use print::whole;
+use cells::limits::PRINT_ROOM;
 use text::part;
 use trial::calls;
 ghost use Prim.Native.Nat.{_≤_};
@@ -165,7 +165,7 @@ fn main() {
     let mut cells = [0i32; CELLS + MORE];
     let mut work = [0u16; WORK + MORE];
     let mut result = [0u16; RESULT + MORE];
-    let mut out = [0u8; whole::PRINT_ROOM];
+    let mut out = [0u8; PRINT_ROOM];
     let n = io::read_full(0, &mut input);
     trials(&input[..n], &mut cells, &mut work, &mut result, &mut out);
 }
