@@ -1,6 +1,6 @@
 // What the T and D lines read so far say.
 use cells::condition::Layout;
-use cells::condition::TABLES;
+use cells::limits::TABLES;
 ghost use mathlib.Core.Path.{_≡_};
 ghost use Prim.Native.Nat.{_+_, _-_, _<_, _≤_};
 ghost use lib.ListN.{set};

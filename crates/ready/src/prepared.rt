@@ -1,6 +1,6 @@
 // A query made ready for its run: questions 8, 9 and 10, the sets and the plan.
-use cells::condition::TABLES;
 use cells::limits::STEPS;
+use cells::limits::TABLES;
 use plan::query::StoredQuery;
 use plan::step::Step;
 use plan::steps::StepList;
