@@ -5,6 +5,7 @@ use Prim.Native.Nat.{ℕ, zero, suc, _+_, _^_, _/_, _%_}
 use lib.Dec.{eqb, leb}
 use lib.ListN.{getD}
 use Rattle.cells.specs.Choice.{if_then_else_}
+use Rattle.cells.specs.Limits.{mostConditions}
 use Rattle.cells.specs.Row.{Row, blankRow}
 use Rattle.rows.specs.Lists.{range, keep}
 use Rattle.plan.specs.declared.step.Step.{Step}
@@ -31,7 +32,7 @@ unfoldable pub hasBit : ℕ → ℕ → Bool
 hasBit m k = eqb (m / 2 ^ k % 2) 1
 
 unfoldable pub bitNumbers : ℕ → List ℕ
-bitNumbers m = keep (hasBit m) (range 0 64)
+bitNumbers m = keep (hasBit m) (range 0 mostConditions)
 
 -- "a row number or blank (.. `-` in text)"
 unfoldable pub printEntry : ℕ → Bytes

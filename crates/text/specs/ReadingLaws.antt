@@ -18,8 +18,9 @@ use Rattle.plan.specs.Report.{Table, Join, Query, Report, queryOf, conditionNum
 use Rattle.plan.specs.SetLaws.{Numbered}
 use Rattle.plan.specs.QueryLaws.{WellRead}
 use Rattle.text.specs.Bytes.{Bytes}
-use Rattle.text.specs.Lines.{JoinKind, innerJoin, leftOuterJoin, kindOf, Line, tableLine, rowLine, joinLine, conditionLine, orderLine}
-use Rattle.text.specs.Reading.{tablesOf, joinsOf, conditionsOf, pairsOf, reportOf, textLines, readReport}
+use Rattle.text.specs.Lines.{JoinKind, innerJoin, leftOuterJoin, kindOf, JoinLine, joinLine, conditionLine, Line}
+use Rattle.text.specs.LineParts.{joinLines}
+use Rattle.text.specs.Reading.{firstConditions, joinsOf, conditionsOf, conditionsIn, reportOf, textLines, readReport}
 
 -- a J line is no product
 line-plain : (k : JoinKind) → BlanksRight (kindOf k)
@@ -27,41 +28,32 @@ unfolding kindOf
 line-plain innerJoin = tt
 line-plain leftOuterJoin = tt
 
-joins-plain : (i : ℕ) (ls : List Line) (j : Join) → j isIn (joinsOf i ls) .1 → BlanksRight (j .kind)
+joins-plain : (i : ℕ) (ls : List JoinLine) (j : Join) → j isIn joinsOf i ls → BlanksRight (j .kind)
 unfolding joinsOf
 joins-plain i (joinLine k a b ∷ ls) j (here e) = rw e (line-plain k)
 joins-plain i (joinLine k a b ∷ ls) j (there m) = joins-plain i ls j m
 joins-plain i (conditionLine c ∷ ls) j m = joins-plain (suc i) ls j m
-joins-plain i (tableLine n ∷ ls) j m = joins-plain i ls j m
-joins-plain i (rowLine zs ∷ ls) j m = joins-plain i ls j m
-joins-plain i (orderLine a b ∷ ls) j m = joins-plain i ls j m
 
 -- condition numbers are counted from i on
-abbrev Counted : ℕ → List Line → ℕ → Type 0
+abbrev Counted : ℕ → List JoinLine → ℕ → Type 0
 Counted i ls c = (i ≤ c) × (c < i + length (conditionsOf ls))
 
-first-counted : (i : ℕ) (ls : List Line) (c : ℕ) → c isIn (joinsOf i ls) .0 → Counted i ls c
-unfolding joinsOf conditionsOf
+first-counted : (i : ℕ) (ls : List JoinLine) (c : ℕ) → c isIn firstConditions i ls → Counted i ls c
+unfolding firstConditions conditionsOf
 first-counted i (conditionLine d ∷ ls) c (here e) = omega arith
 first-counted i (conditionLine d ∷ ls) c (there m) = let r = first-counted (suc i) ls c m in omega arith
-first-counted i (tableLine n ∷ ls) c m = first-counted i ls c m
-first-counted i (rowLine zs ∷ ls) c m = first-counted i ls c m
-first-counted i (orderLine a b ∷ ls) c m = first-counted i ls c m
 
-joins-counted : (i : ℕ) (ls : List Line) (j : Join) → j isIn (joinsOf i ls) .1 → (c : ℕ) → c isIn j .conditions → Counted i ls c
+joins-counted : (i : ℕ) (ls : List JoinLine) (j : Join) → j isIn joinsOf i ls → (c : ℕ) → c isIn j .conditions → Counted i ls c
 unfolding joinsOf conditionsOf
 joins-counted i (joinLine k a b ∷ ls) j (here e) c m = first-counted i ls c (rw (ap (λ (x : Join). x .conditions) e) at m)
 joins-counted i (joinLine k a b ∷ ls) j (there n) c m = joins-counted i ls j n c m
 joins-counted i (conditionLine d ∷ ls) j n c m = let r = joins-counted (suc i) ls j n c m in omega arith
-joins-counted i (tableLine x ∷ ls) j n c m = joins-counted i ls j n c m
-joins-counted i (rowLine zs ∷ ls) j n c m = joins-counted i ls j n c m
-joins-counted i (orderLine a b ∷ ls) j n c m = joins-counted i ls j n c m
 
 pub report-well-read : (ls : List Line) → WellRead (queryOf (reportOf ls))
 unfolding queryOf reportOf conditionNumbers
 report-well-read ls j m = (
-  (λ c n. let r = joins-counted 0 ls j m c n in range-intro 0 (length (conditionsOf ls)) c (r .0) (r .1)),
-  joins-plain 0 ls j m,
+  (λ c n. let r = joins-counted 0 (joinLines ls) j m c n in range-intro 0 (length (conditionsIn ls)) c (r .0) (r .1)),
+  joins-plain 0 (joinLines ls) j m,
 )
 
 -- the report of a text that question 2 does not turn down is what its lines say
