@@ -23,17 +23,21 @@ pub record Place : Type 0 where
 unfoldable pub beforeAll : Place
 beforeAll = record { part = 0 }
 
--- a place in a part, if a line may stand there
-unfoldable pub placeIf : Bool → ℕ → Option Place
-placeIf may n = if may then some (record { part = n }) else none
+-- the place of a line that may stand behind lines of its part and of the parts before it
+unfoldable pub opens : Place → ℕ → Option Place
+opens p n = if leb (p .part) n then some (record { part = n }) else none
+
+-- the place of a line that must stand behind a line of its part
+unfoldable pub follows : Place → ℕ → Option Place
+follows p n = if eqb (p .part) n then some (record { part = n }) else none
 
 -- the place of a line behind one at this place, if it may stand there: D needs a T before it, C and K need a J
 unfoldable pub next : Place → Line → Option Place
-next p (tablesPart (tableLine n)) = placeIf (leb (p .part) 1) 1
-next p (tablesPart (rowLine zs)) = placeIf (eqb (p .part) 1) 1
-next p (joinsPart (joinLine k a b)) = placeIf (leb (p .part) 2) 2
-next p (joinsPart (conditionLine c)) = placeIf (eqb (p .part) 2) 2
-next p (orderPart (orderLine a b)) = placeIf true 3
+next p (tablesPart (tableLine n)) = opens p 1
+next p (tablesPart (rowLine zs)) = follows p 1
+next p (joinsPart (joinLine k a b)) = opens p 2
+next p (joinsPart (conditionLine c)) = follows p 2
+next p (orderPart (orderLine a b)) = opens p 3
 
 -- whether every line stands in its place
 unfoldable pub placed : Place → List Line → Bool
@@ -79,6 +83,10 @@ pairsOf [] = []
 pairsOf (orderLine a b ∷ ls) = (a, b) ∷ pairsOf ls
 
 -- ---- what the lines of a text say
+
+-- D lines before any T line: there is none where every line stands in its place
+abbrev pub earlyRows : List Line → List (List ℤ)
+earlyRows ls = firstRows (tableLines ls)
 
 abbrev pub tablesIn : List Line → List Table
 tablesIn ls = tablesOf (tableLines ls)
