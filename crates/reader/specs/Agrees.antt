@@ -77,17 +77,40 @@ placedAfter : Reading → Option (List Line) → Option Reading
 placedAfter s none = none
 placedAfter s (some ls) = if placed (placeOf (s .place)) ls then some (linesAfter s ls) else none
 
+-- the lines behind a line, by the place that it has
+placedBy : Option Place → List Line → Bool
+placedBy none ls = false
+placedBy (some p) ls = placed p ls
+
+placed-cons : (p : Place) (x : Line) (ls : List Line) → placed p (x ∷ ls) ≡ placedBy (next p x) ls
+unfolding placed placedBy
+placed-cons p x ls = go (next p x)
+  where
+    go : (o : Option Place) → _≡_ {A = Bool} (elim o [ none ↦ false | some q ↦ placed q ls ]) (placedBy o ls)
+    go none = refl
+    go (some q) = refl
+
+placed-step : (s : Reading) (x : Line) (ls : List Line) (o : Option PlaceRead) → nextRead (s .place) (lineRead (some x)) ≡ o
+    → onward (λ (u : Reading). placedAfter u (some ls)) (readAt s (lineRead (some x)) o) ≡ placedAfter s (some (x ∷ ls))
+unfolding placedAfter onward readAt placesOf placedBy
+placed-step s x ls none e = rw (placed-cons (placeOf (s .place)) x ls, next-same (s .place) x, e)
+placed-step s x ls (some q) e =
+    ap (λ (u : Reading). if placed (placeOf q) ls then some u else none) (lines-step s x ls q e)
+    ∙ rw (placed-cons (placeOf (s .place)) x ls, next-same (s .place) x, e)
+
 lines-same : (s : Reading) (ls : List Bytes) → readLines s ls ≡ placedAfter s (readAll lineOf ls)
-unfolding readLines readAll placedAfter placed linesAfter lastPlace picked tablesAfter joinsAfter pairsAfter onward readAt placesOf both
+unfolding readLines readAll placedAfter placed linesAfter lastPlace picked tablesAfter joinsAfter pairsAfter onward readAt both
 lines-same s [] = refl
 lines-same s (l ∷ ls) = go (λ (t : Reading). lines-same t ls) (lineOf l)
   where
-    placedSo : (x : Line) (o : Option PlaceRead) → nextRead (s .place) (lineRead (some x)) ≡ o → (r : Option (List Line))
-        → onward (λ (u : Reading). placedAfter u r) (readAt s (lineRead (some x)) o) ≡ placedAfter s (both (some x) r)
-    placedSo x none e none = refl
-    placedSo x none e (some xs) = rw (next-same (s .place) x, e)
-    placedSo x (some q) e none = refl
-    placedSo x (some q) e (some xs) = rw (next-same (s .place) x, e, lines-step s x xs q e)
+    placedSo : (x : Line) (r : Option (List Line))
+        → onward (λ (u : Reading). placedAfter u r) (afterRead s (lineRead (some x))) ≡ placedAfter s (both (some x) r)
+    placedSo x none = nothing (nextRead (s .place) (lineRead (some x)))
+      where
+        nothing : (o : Option PlaceRead) → onward (λ (u : Reading). none) (readAt s (lineRead (some x)) o) ≡ none
+        nothing none = refl
+        nothing (some q) = refl
+    placedSo x (some xs) = placed-step s x xs (nextRead (s .place) (lineRead (some x))) refl
 
     moved : ((t : Reading) → readLines t ls ≡ placedAfter t (readAll lineOf ls)) → (o : Option Reading)
         → onward (λ (t : Reading). readLines t ls) o ≡ onward (λ (u : Reading). placedAfter u (readAll lineOf ls)) o
@@ -98,7 +121,7 @@ lines-same s (l ∷ ls) = go (λ (t : Reading). lines-same t ls) (lineOf l)
         → onward (λ (t : Reading). readLines t ls) (afterRead s (lineRead o)) ≡ placedAfter s (both o (readAll lineOf ls))
     go ih none = refl
     go ih (some x) =
-        moved ih (afterRead s (lineRead (some x))) ∙ placedSo x (nextRead (s .place) (lineRead (some x))) refl (readAll lineOf ls)
+        moved ih (afterRead s (lineRead (some x))) ∙ placedSo x (readAll lineOf ls)
 
 if-placed : (ls : List Line) (t : Bool) → _≡_ {A = Option (List Line)} (elim t [ true ↦ some ls | false ↦ none ]) (if t then some ls else none)
 if-placed ls true = refl

@@ -1,6 +1,6 @@
 -- Serves the code's pass over the lines; no demand cites it. A run of D lines read with the tables alone, and the reading after it.
 -- Assumes nothing.
-use mathlib.Core.Path.{_≡_, refl, ap, _∙_}
+use mathlib.Core.Path.{_≡_, refl, sym, ap, _∙_, subst}
 use Prim.Native.Nat.{ℕ, _+_, _-_, _<_, _≤_}
 use native.Mathlib.Omega.{arith}
 use lib.ListN.{length, take, drop}
@@ -44,9 +44,9 @@ rows-turn bs from at to k t u v r e l h x d = (
 )
 
 -- the run, with the other parts as they were
-pub reads-rows : (bs : Bytes) (at to : ℕ) (s : Reading) (u : Tables) → Bounded at s → s .place .part ≡ 1 → RowsTo bs at (s .tables) to u
-    → ReadsTo bs at s to (withTables s u)
-reads-rows bs at to s u b e r = (
+pub reads-rows : (bs : Bytes) (at to : ℕ) (s : Reading) (u : Tables) {v : Reading} → Bounded at s → s .place .part ≡ 1
+    → RowsTo bs at (s .tables) to u → v ≡ withTables s u → ReadsTo bs at s to v
+reads-rows bs at to s u b e r d = subst (λ (x : Reading). ReadsTo bs at s to x) (sym d) (
   omega arith,
   omega arith,
   (omega arith, omega arith, omega arith, omega arith, omega arith, omega arith),
