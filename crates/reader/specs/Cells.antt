@@ -1,17 +1,15 @@
 -- The cells that an accepted text's layout and run hold are the report's, at every table, row and column, also where there is none.
 -- Assumes nothing.
-use mathlib.Core.Path.{_≡_, refl, sym, ap, _∙_}
-use mathlib.Core.Bool.{Bool, true, false, _&&_, and-false}
-use mathlib.Core.List.{List, [], _∷_, _++_, map}
+use mathlib.Core.Path.{_≡_, refl, ap, _∙_}
+use mathlib.Core.Bool.{Bool, true, false, and-false}
+use mathlib.Core.List.{List, [], _++_, map}
 use Prim.Native.Nat.{ℕ, zero, suc, _+_, _-_, _<_, _≤_}
-use native.Mathlib.Nat.{zero-add}
 use native.Mathlib.Omega.{arith}
 use lib.Dec.{eqb, ltb}
 use lib.IntN.{ℤ}
-use lib.ListN.{length, drop, getD, replicate, length-map, length-replicate, List·getD-eq-default}
+use lib.ListN.{length, getD, replicate, length-map, length-replicate, List·getD-eq-default}
 use lib.Seq.{sets}
 use borrow.Author.Tests.{le-ltb, ltb-true, ltb-false}
-use Rattle.cells.specs.Choice.{if_then_else_}
 use Rattle.cells.specs.BoolLaws.{is-true}
 use Rattle.cells.specs.Cell.{blankCell}
 use Rattle.cells.specs.Limits.{mostTables, mostCells}
@@ -31,7 +29,6 @@ use Rattle.reader.specs.Agrees.{linesAfter}
 use Rattle.reader.specs.Kept.{columns-kept}
 use Rattle.reader.specs.Query.{storedOf, done, sets-behind}
 use Rattle.reader.specs.Looked.{Wide, noTable, cells-looked}
-use Rattle.reader.specs.declared.tables.Tables.{Tables}
 
 abbrev none : ℕ → List ℕ
 none n = replicate n 0

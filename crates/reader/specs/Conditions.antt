@@ -3,12 +3,11 @@
 use mathlib.Core.Path.{_≡_, refl, sym, ap, ap₂, _∙_}
 use mathlib.Core.Bool.{Bool, true, false}
 use mathlib.Core.Logic.{inl}
-use mathlib.Core.List.{List, [], _∷_, _++_}
-use Prim.Native.Nat.{ℕ, zero, suc, _+_, _-_, _<_, _≤_}
+use mathlib.Core.List.{List}
+use Prim.Native.Nat.{ℕ, zero, suc, _-_, _<_, _≤_}
 use native.Mathlib.Omega.{arith}
 use lib.Dec.{ltb}
-use lib.IntN.{ℤ}
-use lib.ListN.{length, take, drop, getD, replicate, length-replicate, List·getD-eq-default}
+use lib.ListN.{length, getD, replicate, length-replicate, List·getD-eq-default}
 use lib.Seq.{sets, getD-take}
 use borrow.Author.Tests.{ltb-true, ltb-false}
 use Rattle.cells.specs.Limits.{mostConditions}
@@ -28,7 +27,6 @@ use Rattle.reader.specs.Survey.{start}
 use Rattle.reader.specs.Agrees.{linesAfter}
 use Rattle.reader.specs.Kept.{conditions-kept}
 use Rattle.reader.specs.Query.{storedOf, done, kept-conditions, sets-behind}
-use Rattle.reader.specs.declared.join_lines.Joins.{Joins}
 
 -- cells that are the same everywhere make the same conditions true
 pub true-cells : (f g : Cells) → ((t row column : ℕ) → f t row column ≡ g t row column) → (k : Condition) (row : Row) → trueIn f k row ≡ trueIn g k row

@@ -1,20 +1,16 @@
 -- What the lines of a report leave in the code's structs is the report: its counts, its tables' columns, rows and places, its
 -- joins, conditions and pairs, and the answers of questions 3 and 4. Assumes nothing.
 use mathlib.Core.Path.{_≡_, refl, sym, ap, _∙_}
-use mathlib.Core.Bool.{Bool, true, false, _&&_}
 use mathlib.Core.List.{List, [], _∷_, map}
-use Prim.Native.Nat.{ℕ, zero, suc, _+_, _-_, _<_, _≤_}
-use native.Mathlib.Nat.{add-zero, zero-add, add-suc, suc-add}
+use Prim.Native.Nat.{ℕ, suc, _+_, _-_}
+use native.Mathlib.Nat.{add-zero, zero-add}
 use native.Mathlib.Numerals.{add-one}
 use native.Mathlib.Omega.{arith}
-use lib.Dec.{eqb, leb}
-use lib.IntN.{ℤ}
-use lib.ListN.{length, take, drop, set}
-use lib.Seq.{sets, set-set}
-use Rattle.cells.specs.declared.condition.Condition.{Condition}
+use lib.ListN.{length, set}
+use lib.Seq.{sets}
 use Rattle.rows.specs.Lists.{range}
-use Rattle.plan.specs.Report.{Table, Join, Pair}
-use Rattle.plan.specs.Stored.{joinIn, pairIn}
+use Rattle.plan.specs.Report.{Table, Pair}
+use Rattle.plan.specs.Stored.{joinIn}
 use Rattle.plan.specs.declared.query.StoredJoin.{StoredJoin}
 use Rattle.plan.specs.declared.query.StoredPair.{StoredPair}
 use Rattle.text.specs.Lines.{TableLine, tableLine, rowLine, JoinLine, joinLine, conditionLine, OrderLine, orderLine, kindOf}

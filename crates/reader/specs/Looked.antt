@@ -1,17 +1,16 @@
 -- What the layout and the run of an accepted text hold is the report's cells: document 01, "a table is looked at through its row
 -- count, column count and own cells". Assumes nothing.
 use mathlib.Core.Path.{_≡_, refl, sym, ap, _∙_}
-use mathlib.Core.Bool.{Bool, true, false, and-false}
+use mathlib.Core.Bool.{Bool, true, false}
 use mathlib.Core.List.{List, [], _∷_, _++_, append-assoc, map}
 use Prim.Native.Nat.{ℕ, zero, suc, _+_, _*_, _-_, _<_, _≤_}
-use native.Mathlib.Nat.{add-assoc, zero-mul, suc-mul, zero-add}
+use native.Mathlib.Nat.{zero-mul, suc-mul, zero-add}
 use native.Mathlib.Omega.{arith}
 use lib.Dec.{eqb, ltb}
 use lib.IntN.{ℤ}
 use lib.ListN.{length, drop, getD, set, replicate, length-append, length-map, List·getD-eq-default, List·getD-append, List·getD-map}
 use lib.Seq.{sets, drop-append-seam, getD-append-add, getD-take}
-use borrow.Author.Tests.{lt-ltb, le-ltb, ltb-true, ltb-false, eqb-true}
-use Rattle.cells.specs.Choice.{if_then_else_}
+use borrow.Author.Tests.{ltb-true, ltb-false, eqb-true}
 use Rattle.cells.specs.BoolLaws.{both-left, both-right}
 use Rattle.cells.specs.Cell.{blankCell}
 use Rattle.cells.specs.Limits.{mostTables, mostCells}
@@ -30,7 +29,6 @@ use Rattle.reader.specs.Agrees.{linesAfter}
 use Rattle.reader.specs.Kept.{columns-kept, rows-kept}
 use Rattle.reader.specs.Counts.{Written, offsetsFrom, offsets-kept}
 use Rattle.reader.specs.Query.{storedOf, done, sets-take}
-use Rattle.reader.specs.declared.tables.Tables.{Tables}
 
 -- ---- rows of one width
 

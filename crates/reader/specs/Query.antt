@@ -3,19 +3,16 @@ use mathlib.Core.Path.{_≡_, refl, sym, ap, _∙_}
 use mathlib.Core.Bool.{Bool, true, false, _&&_, and-true, and-false}
 use mathlib.Core.List.{List, [], _∷_, _++_, map}
 use Prim.Native.Nat.{ℕ, zero, suc, _+_, _-_, _<_, _≤_}
-use native.Mathlib.Nat.{zero-add, add-zero}
+use native.Mathlib.Nat.{zero-add}
 use native.Mathlib.Omega.{arith}
-use lib.Dec.{leb, eqb}
+use lib.Dec.{leb}
 use lib.ListN.{length, take, drop, getD, set, replicate, length-set, length-map}
 use lib.Seq.{sets, sets-eq, getD-append-add, getD-drop, set-out, take-append-seam, take-all, length-sets, length-take-le}
-use borrow.Author.Tests.{le-leb, lt-leb, leb-true, leb-false, ne-eqb}
+use borrow.Author.Tests.{le-leb, lt-leb, leb-true, leb-false}
 use Rattle.cells.specs.Limits.{mostTables, mostRows, mostCells, mostJoins, mostConditions, mostPairs}
-use Rattle.cells.specs.declared.condition.Condition.{Condition}
 use Rattle.rows.specs.Lists.{all}
-use Rattle.plan.specs.Report.{Table, Pair, Report}
+use Rattle.plan.specs.Report.{Table, Pair}
 use Rattle.plan.specs.Stored.{joinIn, pairIn}
-use Rattle.plan.specs.declared.query.StoredJoin.{StoredJoin}
-use Rattle.plan.specs.declared.query.StoredPair.{StoredPair}
 use Rattle.plan.specs.declared.query.StoredQuery.{StoredQuery}
 use Rattle.text.specs.Lines.{Line}
 use Rattle.text.specs.LineParts.{tableLines, joinLines, orderLines}
@@ -25,10 +22,8 @@ use Rattle.reader.specs.State.{noTables, noJoins, noPairs, closedRows}
 use Rattle.reader.specs.Survey.{start}
 use Rattle.reader.specs.Agrees.{linesAfter}
 use Rattle.reader.specs.Kept.{storePair, storedJoins, stored-joins, more, pairs-count, pairs-kept, conditions-count, conditions-kept, joins-count, joins-kept, tables-count, columns-kept}
-use Rattle.reader.specs.Counts.{even-kept, fits-kept, cells-kept, offsets-kept, offsetsFrom}
+use Rattle.reader.specs.Counts.{even-kept, fits-kept, cells-kept}
 use Rattle.reader.specs.declared.tables.Tables.{Tables}
-use Rattle.reader.specs.declared.join_lines.Joins.{Joins}
-use Rattle.reader.specs.declared.pairs.Pairs.{Pairs}
 use Rattle.reader.specs.declared.survey.Reading.{Reading}
 
 -- the query that a reading stands for, as the code holds it

@@ -1,17 +1,17 @@
 -- The joins that are kept of a text: their places in the array, their conditions within the text's, and, after question 5, sides that
 -- are lower nodes. Assumes nothing.
-use mathlib.Core.Path.{_≡_, refl, sym, ap, _∙_, subst}
-use mathlib.Core.Bool.{Bool, true, false, _&&_}
+use mathlib.Core.Path.{_≡_, sym, ap, _∙_, subst}
+use mathlib.Core.Bool.{_&&_}
 use mathlib.Core.List.{List, [], _∷_, map}
 use Prim.Native.Nat.{ℕ, zero, suc, _+_, _-_, _<_, _≤_}
 use native.Mathlib.Omega.{arith}
 use lib.Dec.{T, eqb, ltb}
-use lib.ListN.{length, take, getD, set, length-map, length-set}
-use lib.Seq.{sets, length-sets, getD-take}
+use lib.ListN.{length, getD, set, length-map, length-set}
+use lib.Seq.{length-sets, getD-take}
 use mir.Facts.{and-yes, ltb-yes}
 use Rattle.cells.specs.Limits.{mostJoins}
 use Rattle.rows.specs.ListLaws.{_isIn_, here, there, getD-isIn}
-use Rattle.plan.specs.Report.{Table, Join, Pair, queryOf, tableCount, joinPairs}
+use Rattle.plan.specs.Report.{Join, Pair, queryOf, tableCount, joinPairs}
 use Rattle.plan.specs.Stored.{joinIn}
 use Rattle.plan.specs.Questions.{lowerSides, noneTwice, sidesOf, wellBuilt, question5}
 use Rattle.plan.specs.declared.query.StoredJoin.{StoredJoin}
@@ -24,7 +24,6 @@ use Rattle.reader.specs.Survey.{start}
 use Rattle.reader.specs.Agrees.{linesAfter}
 use Rattle.reader.specs.Kept.{storedJoins, stored-joins, more, joins-kept}
 use Rattle.reader.specs.Query.{storedOf, done, stored-joined, stored-numbered, kept-joins}
-use Rattle.reader.specs.declared.join_lines.Joins.{Joins}
 
 -- the conditions of a join are among the text's
 before-join : (i : ℕ) (ls : List JoinLine) → i + length (firstConditions i ls) ≤ i + length (conditionsOf ls)

@@ -1,7 +1,6 @@
 -- Serves the code's pass over the lines; no demand cites it. What the lines read so far leave in the code's structs, line by line.
 -- Assumes nothing.
-use mathlib.Core.Bool.{Bool, true, false, _&&_}
-use mathlib.Core.List.{List, [], _∷_}
+use mathlib.Core.Bool.{Bool, true, _&&_}
 use Prim.Native.Nat.{ℕ, _+_, _-_}
 use lib.Dec.{eqb, leb}
 use lib.ListN.{set, replicate}
@@ -13,7 +12,6 @@ use Rattle.cells.specs.declared.condition.Layout.{Layout}
 use Rattle.rows.specs.declared.kind.Kind.{Kind}
 use Rattle.rows.specs.declared.kind.Kind.the-variants.{Inner}
 use Rattle.plan.specs.declared.query.StoredJoin.{StoredJoin}
-use Rattle.plan.specs.declared.query.StoredPair.{StoredPair}
 use Rattle.reader.specs.declared.tables.Tables.{Tables}
 use Rattle.reader.specs.declared.join_lines.Joins.{Joins}
 use Rattle.reader.specs.declared.pairs.Pairs.{Pairs}

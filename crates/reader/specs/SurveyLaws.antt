@@ -1,16 +1,14 @@
 -- Serves the code's pass over the lines; no demand cites it. The steps and the pass of Survey by the tests that the code makes.
 -- Assumes nothing.
 use mathlib.Core.Path.{_≡_, refl, sym, ap, _∙_, subst}
-use mathlib.Core.Bool.{Bool, true, false}
-use mathlib.Core.List.{List, [], _∷_}
+use mathlib.Core.Bool.{true, false}
+use mathlib.Core.List.{List}
 use mathlib.Core.Option.{Option, none, some}
 use Prim.Native.Nat.{ℕ, _+_, _-_, _<_, _≤_}
 use native.Mathlib.Omega.{arith}
-use lib.Dec.{eqb, leb}
 use lib.ListN.{length, take, drop}
 use borrow.Author.Tests.{le-leb, lt-leb, eq-eqb, ne-eqb}
 use Rattle.cells.specs.BoolLaws.{clash}
-use Rattle.cells.specs.Choice.{if_then_else_}
 use Rattle.cells.specs.Limits.{mostBytes}
 use Rattle.text.specs.Bytes.{Bytes, lineFeed}
 use Rattle.text.specs.Lines.{lineOf}

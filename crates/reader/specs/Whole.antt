@@ -5,20 +5,18 @@ use mathlib.Core.List.{List, [], _∷_, map}
 use Prim.Native.Nat.{ℕ, zero, suc, _-_, _≤_}
 use lib.ListN.{length, take, set, length-map, length-set}
 use Rattle.cells.specs.Limits.{mostTables, mostJoins, mostConditions, mostPairs}
-use Rattle.cells.specs.declared.condition.Condition.{Condition}
-use Rattle.plan.specs.Report.{Table, Join, queryOf, tableCount}
+use Rattle.plan.specs.Report.{Table, queryOf, tableCount}
 use Rattle.plan.specs.Stored.{joinIn, pairIn, queryIn}
 use Rattle.plan.specs.declared.query.StoredJoin.{StoredJoin}
 use Rattle.plan.specs.declared.query.StoredQuery.{StoredQuery}
 use Rattle.text.specs.Lines.{Line}
-use Rattle.text.specs.LineParts.{joinLines, orderLines}
-use Rattle.text.specs.Reading.{firstConditions, tablesIn, joinsIn, conditionsIn, pairsIn, reportOf}
+use Rattle.text.specs.LineParts.{joinLines}
+use Rattle.text.specs.Reading.{firstConditions, tablesIn, conditionsIn, pairsIn, reportOf}
 use Rattle.reader.specs.State.{noJoins}
 use Rattle.reader.specs.Survey.{start}
 use Rattle.reader.specs.Agrees.{linesAfter}
 use Rattle.reader.specs.Kept.{storedJoins, stored-joins, more, joins-kept, conditions-kept}
 use Rattle.reader.specs.Query.{storedOf, done, stored-tables, stored-joined, stored-numbered, stored-paired, kept-columns, kept-pairs, back-pairs, sets-kept}
-use Rattle.reader.specs.declared.join_lines.Joins.{Joins}
 
 map-take : {A B : Type 0} (f : A → B) (n : ℕ) (l : List A) → map f (take n l) ≡ take n (map f l)
 map-take f zero l = refl

@@ -1,30 +1,18 @@
 -- Serves the code's reader of lines; no demand cites it. A line by its letter. Assumes nothing.
-use mathlib.Core.Path.{_≡_, refl, sym, ap, _∙_, subst}
-use mathlib.Core.Bool.{Bool, true, false, _&&_, and-false}
+use mathlib.Core.Path.{_≡_, refl, sym, ap, _∙_}
+use mathlib.Core.Bool.{false}
 use mathlib.Core.List.{List, [], _∷_}
 use mathlib.Core.Option.{Option, none, some}
-use Prim.Native.Nat.{ℕ, zero, suc, _+_, _-_, _<_, _≤_}
+use Prim.Native.Nat.{ℕ, _+_, _-_, _≤_}
 use Prim.Native.String.{String}
-use native.Mathlib.Nat.{add-zero, zero-add, add-suc, suc-add}
-use native.Mathlib.Numerals.{add-one}
 use native.Mathlib.Omega.{arith}
-use lib.Dec.{eqb}
-use lib.IntN.{ℤ}
-use lib.Signed.{mag}
-use lib.ListN.{length, getD, take, drop, length-take, length-drop}
+use lib.ListN.{length, getD, take, drop}
 use lib.Seq.{getD-take, length-take-le}
-use borrow.Author.Tests.{eq-eqb, ne-eqb}
-use Rattle.cells.specs.Choice.{if_then_else_}
-use Rattle.cells.specs.declared.condition.Condition.{Condition}
-use Rattle.cells.specs.declared.condition.Side.the-variants.{Column, Constant}
-use Rattle.rows.specs.declared.kind.Kind.{Kind}
 use Rattle.text.specs.Bytes.{Bytes, bytes, tab, sameBytes, split}
-use Rattle.text.specs.Numbers.{cell, constant}
-use Rattle.text.specs.Lines.{Line, tablesPart, joinsPart, orderPart, Form, _>>=_, _>>_, field, oneOf, end, both, readAll, word, numberField, kindField, operatorField, cellFields, formT, formD, formJ, formC, formK, formP, firstOf, inPart, lineBy, lineOf}
-use Rattle.text.specs.Parts.{until, partsAfter, fieldsFrom, split-until, field-here, fields-none, fields-all}
-use Rattle.text.specs.Ranges.{differ-one, differ-length, constant-fits}
-use Rattle.text.specs.Fields.{fieldOf, field-cons, pairField, bothOf, secondOf, storedKind}
-use Rattle.text.specs.declared.line.LineRead.{LineRead}
+use Rattle.text.specs.Lines.{Line, tablesPart, joinsPart, orderPart, Form, _>>=_, _>>_, field, oneOf, word, formT, formD, formJ, formC, formK, formP, firstOf, inPart, lineBy, lineOf}
+use Rattle.text.specs.Parts.{until, fieldsFrom, field-here, fields-all}
+use Rattle.text.specs.Ranges.{differ-one, differ-length}
+use Rattle.text.specs.Fields.{fieldOf, field-cons}
 use Rattle.text.specs.declared.line.LineRead.the-variants as R
 use Rattle.text.specs.Forms.{lineRead, given, formRead, tableForm, rowForm, joinForm, columnForm, constantForm, orderForm, then-none}
 

@@ -1,6 +1,5 @@
 -- The form of each kind of line: document 01, "Report text". A form reads the fields of a line from the left, each once.
 -- Assumes nothing.
-use mathlib.Core.Bool.{Bool}
 use mathlib.Core.List.{List, [], _∷_}
 use mathlib.Core.Option.{Option, none, some}
 use Prim.Native.Nat.{ℕ}

@@ -7,7 +7,6 @@ use mathlib.Core.Option.{Option, none}
 use Prim.Native.Nat.{ℕ}
 use native.Mathlib.Omega.{arith}
 use Rattle.rows.specs.Lists.{keep}
-use Rattle.plan.specs.Report.{Report}
 use Rattle.text.specs.Lines.{Line, tablesPart, joinsPart, orderPart}
 use Rattle.text.specs.LineParts.{picked, picked-keep, ofTables, ofJoins, tableLines, joinLines}
 use Rattle.text.specs.Reading.{tablesOf, joinsOf, conditionsOf, reportOf}

@@ -7,16 +7,14 @@ use mathlib.Core.List.{List, [], _∷_}
 use Prim.Native.Nat.{ℕ, suc, _+_, _≤_, _<_}
 use native.Mathlib.Omega.{arith}
 use lib.Dec.{eqb, leb}
-use lib.IntN.{ℤ}
 use lib.ListN.{length}
 use borrow.Author.Tests.{ne-eqb}
 use Rattle.cells.specs.BoolLaws.{clash}
 use Rattle.cells.specs.Choice.{if_then_else_}
 use Rattle.cells.specs.Limits.{mostBytes}
-use Rattle.rows.specs.Lists.{range}
 use Rattle.rows.specs.ListLaws.{_isIn_, here, there, range-intro}
 use Rattle.rows.specs.Shapes.{BlanksRight}
-use Rattle.plan.specs.Report.{Join, Query, Report, queryOf, conditionNumbers}
+use Rattle.plan.specs.Report.{Join, Report, queryOf, conditionNumbers}
 use Rattle.plan.specs.QueryLaws.{WellRead}
 use Rattle.text.specs.Bytes.{Bytes}
 use Rattle.text.specs.Lines.{JoinKind, innerJoin, leftOuterJoin, kindOf, tableLine, rowLine, JoinLine, joinLine, conditionLine, OrderLine, orderLine, Line, tablesPart, joinsPart, orderPart, linesOf}

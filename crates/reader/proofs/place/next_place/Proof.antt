@@ -1,5 +1,5 @@
 -- `reader::place::next_place` meets its contract: the place of each kind of line. Assumes nothing.
-use mathlib.Core.Path.{_≡_, ap, sym, _∙_}
+use mathlib.Core.Path.{ap, sym, _∙_}
 use Rattle.reader.specs.Survey.{nextRead}
 use borrow.Author.Needs.{needs}
 use Rattle.reader.proofs.place.next_place.Statement.{statement}

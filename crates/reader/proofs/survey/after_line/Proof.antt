@@ -1,5 +1,5 @@
 -- `reader::survey::after_line` meets its contract: the line has a place, or none. Assumes nothing.
-use mathlib.Core.Path.{_≡_, ap, sym, _∙_}
+use mathlib.Core.Path.{ap, sym, _∙_}
 use Rattle.reader.specs.Survey.{nextIn}
 use Rattle.reader.specs.SurveyLaws.{read-there, read-nowhere}
 use borrow.Author.Needs.{needs}

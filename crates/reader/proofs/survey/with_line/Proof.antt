@@ -1,5 +1,5 @@
 -- `reader::survey::with_line` meets its contract: the struct of the line's part, with what the line says. Assumes nothing.
-use mathlib.Core.Path.{_≡_, ap, sym, _∙_}
+use mathlib.Core.Path.{ap, sym, _∙_}
 use Rattle.reader.specs.Survey.{withTables, withJoins, withPairs, told}
 use borrow.Author.Needs.{needs}
 use Rattle.reader.proofs.survey.with_line.Statement.{statement}
