@@ -10,7 +10,7 @@ use native.Mathlib.Omega.{arith}
 use lib.Dec.{eqb, leb}
 use lib.IntN.{ℤ}
 use lib.ListN.{length, take, drop, getD, set}
-use lib.Seq.{sets, sets-eq}
+use lib.Seq.{sets}
 use borrow.Author.Tests.{eq-eqb, ne-eqb, le-leb, lt-leb, leb-true, leb-false}
 use Rattle.cells.specs.Choice.{if_then_else_}
 use Rattle.text.specs.Bytes.{Bytes, tab, lineFeed, split}
@@ -156,11 +156,3 @@ pub part-short : (n : ℕ) (l : Bytes) → length (take n l) ≤ n
 part-short zero l = omega arith
 part-short (suc n) [] = omega arith
 part-short (suc n) (b ∷ l) = let h = part-short n l in omega arith
-
--- cells laid from the run's start on: they, and then what was there
-pub laid-first : (run zs : List ℤ) → length zs ≤ length run → laid run 0 zs ≡ zs ++ drop (length zs) run
-unfolding laid
-laid-first run zs h =
-    let k : 0 + length zs ≤ length run = omega arith in
-    let n : 0 + length zs ≡ length zs = omega arith in
-    sets-eq zs run 0 k ∙ rw n

@@ -4,11 +4,10 @@ use mathlib.Core.Path.{_≡_, refl, sym, ap, _∙_}
 use mathlib.Core.Bool.{Bool, true, false, not}
 use mathlib.Core.List.{List}
 use mathlib.Core.Option.{Option, none}
-use Prim.Native.Nat.{ℕ}
-use native.Mathlib.Omega.{arith}
+use Rattle.cells.specs.BoolLaws.{clash}
 use Rattle.rows.specs.Lists.{keep}
-use Rattle.text.specs.Lines.{Line, tablesPart, joinsPart, orderPart}
-use Rattle.text.specs.LineParts.{picked, picked-keep, ofTables, ofJoins, tableLines, joinLines}
+use Rattle.text.specs.Lines.{OrderLine, Line, tablesPart, joinsPart, orderPart}
+use Rattle.text.specs.LineParts.{picked, picked-keep, ofTables, ofJoins}
 use Rattle.text.specs.Reading.{tablesOf, joinsOf, conditionsOf, reportOf}
 
 -- whether a line is one of the order: a P line
@@ -23,45 +22,27 @@ queryLines ls = keep (λ x. not (isOrder x)) ls
 
 -- ---- they say all of the report but its order
 
--- what no line of the order has is picked out of them as out of all lines
-query-picked : {A : Type 0} (f : Line → Option A) → ((x : Line) → isOrder x ≡ true → f x ≡ none) → (a b : List Line)
+-- what is picked of no line of the order is picked of them as of all lines
+query-picked : {A : Type 0} (f : Line → Option A) → ((x : OrderLine) → f (orderPart x) ≡ none) → (a b : List Line)
     → queryLines a ≡ queryLines b → picked f a ≡ picked f b
-unfolding queryLines
+unfolding queryLines isOrder
 query-picked f h a b same =
-    sym (picked-keep f (λ x. not (isOrder x)) (λ x e. h x (turned (isOrder x) e)) a) ∙ ap (picked f) same
-    ∙ picked-keep f (λ x. not (isOrder x)) (λ x e. h x (turned (isOrder x) e)) b
+    sym (picked-keep f (λ x. not (isOrder x)) passed a) ∙ ap (picked f) same ∙ picked-keep f (λ x. not (isOrder x)) passed b
   where
-    turned : (t : Bool) → not t ≡ false → t ≡ true
-    turned true e = refl
-    turned false e = sym e
+    passed : (x : Line) → not (isOrder x) ≡ false → f x ≡ none
+    passed (tablesPart y) e = clash cc
+    passed (joinsPart y) e = clash cc
+    passed (orderPart y) e = h y
 
 module _ (a b : List Line) (same : queryLines a ≡ queryLines b) where
-  same-table-lines : tableLines a ≡ tableLines b
-  unfolding isOrder ofTables
-  same-table-lines = query-picked ofTables none-picked a b same
-    where
-      none-picked : (x : Line) → isOrder x ≡ true → ofTables x ≡ none
-      none-picked (tablesPart y) e = absurd (let z : _≡_ {A = ℕ} 0 1 = cc in omega arith)
-      none-picked (joinsPart y) e = refl
-      none-picked (orderPart y) e = refl
-
-  same-join-lines : joinLines a ≡ joinLines b
-  unfolding isOrder ofJoins
-  same-join-lines = query-picked ofJoins none-picked a b same
-    where
-      none-picked : (x : Line) → isOrder x ≡ true → ofJoins x ≡ none
-      none-picked (tablesPart y) e = refl
-      none-picked (joinsPart y) e = absurd (let z : _≡_ {A = ℕ} 0 1 = cc in omega arith)
-      none-picked (orderPart y) e = refl
-
   pub same-tables : reportOf a .tables ≡ reportOf b .tables
-  unfolding reportOf
-  same-tables = ap tablesOf same-table-lines
+  unfolding reportOf ofTables
+  same-tables = ap tablesOf (query-picked ofTables (λ x. refl) a b same)
 
   pub same-joins : reportOf a .joins ≡ reportOf b .joins
-  unfolding reportOf
-  same-joins = ap (joinsOf 0) same-join-lines
+  unfolding reportOf ofJoins
+  same-joins = ap (joinsOf 0) (query-picked ofJoins (λ x. refl) a b same)
 
   pub same-conditions : reportOf a .conditions ≡ reportOf b .conditions
-  unfolding reportOf
-  same-conditions = ap conditionsOf same-join-lines
+  unfolding reportOf ofJoins
+  same-conditions = ap conditionsOf (query-picked ofJoins (λ x. refl) a b same)
