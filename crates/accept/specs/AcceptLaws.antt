@@ -18,7 +18,7 @@ use Rattle.plan.specs.Questions.{question5, question6, question7}
 use Rattle.plan.specs.declared.query.StoredQuery.{StoredQuery}
 use Rattle.text.specs.Bytes.{Bytes}
 use Rattle.text.specs.Lines.{Line}
-use Rattle.text.specs.Reading.{tablesOf, textLines, reportOf, readReport}
+use Rattle.text.specs.Reading.{tablesIn, textLines, reportOf, readReport}
 use Rattle.plan.specs.TableQuestions.{cellsInTables, tableFits, question3, question4}
 use Rattle.questions.specs.Kept.{room-of, too-many, enough-room}
 use Rattle.questions.specs.Whole.{Keeps, whole-five, whole-six, whole-seven}
@@ -95,16 +95,16 @@ module _ {s : StoredQuery} {q : Query} (k : Keeps s q) (t : tableCount q ≤ 8) 
 -- ---- what the reader says
 
 module _ (ls : List Line) where
-  pub fits-tables : question3 (reportOf ls) ≡ true → (1 ≤ length ((tablesOf ls) .1)) × (length ((tablesOf ls) .1) ≤ 8)
+  pub fits-tables : question3 (reportOf ls) ≡ true → (1 ≤ length (tablesIn ls)) × (length (tablesIn ls) ≤ 8)
   unfolding question3 reportOf
   fits-tables h =
-      let n : ℕ = length ((tablesOf ls) .1) in
-      let (a, _) = and-yes (leb 1 n && leb n 8 && all tableFits ((tablesOf ls) .1)) (leb (cellsInTables ((tablesOf ls) .1)) 4096) (rw h tt) in
-      let (b, _) = and-yes (leb 1 n && leb n 8) (all tableFits ((tablesOf ls) .1)) a in
+      let n : ℕ = length (tablesIn ls) in
+      let (a, _) = and-yes (leb 1 n && leb n 8 && all tableFits (tablesIn ls)) (leb (cellsInTables (tablesIn ls)) 4096) (rw h tt) in
+      let (b, _) = and-yes (leb 1 n && leb n 8) (all tableFits (tablesIn ls)) a in
       let (x, y) = and-yes (leb 1 n) (leb n 8) b in
       (leb-yes x, leb-yes y)
 
-  pub keeps : length ((tablesOf ls) .1) ≤ 8 → Keeps (storedOf (done ls)) (queryOf (reportOf ls))
+  pub keeps : length (tablesIn ls) ≤ 8 → Keeps (storedOf (done ls)) (queryOf (reportOf ls))
   keeps h = record {
     columns = W.columns-whole ls h;
     join-count = W.join-count ls;

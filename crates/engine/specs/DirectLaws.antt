@@ -19,7 +19,7 @@ use Rattle.plan.specs.Questions.{question8}
 use Rattle.plan.specs.Stored.{queryIn}
 use Rattle.plan.specs.declared.query.StoredQuery.{StoredQuery}
 use Rattle.text.specs.Bytes.{Bytes}
-use Rattle.text.specs.Reading.{tablesOf, reportOf}
+use Rattle.text.specs.Reading.{tablesIn, reportOf}
 use Rattle.load.specs.Flat.{flatTables}
 use Rattle.reader.specs.Query.{storedOf, done}
 use Rattle.reader.specs.Outcome.{runAfter}
@@ -54,7 +54,7 @@ direct-early bs n w e = gave (refused n) (refused-early ((11, question11Direct) 
 module _ {bs : Bytes} {s : StoredQuery} (p : Passed bs s) (passed : refusal bs ≡ none) (before after : List ℤ)
     (run : after ≡ runAfter bs before) (room : 4096 ≤ length before) (w w′ : List ℕ) (a : Answer) where
   abbrev more : List ℤ
-  more = drop (length (flatTables ((tablesOf (p .lines)) .1))) before
+  more = drop (length (flatTables (tablesIn (p .lines)))) before
 
   -- what is asked behind question 8
   abbrev last : List Question
@@ -86,7 +86,7 @@ module _ {bs : Bytes} {s : StoredQuery} (p : Passed bs s) (passed : refusal bs �
     abbrev W : Database ℕ
     W = workspace after (s .layout) (s .conditions)
 
-    whole : W ≡ workspace (flatTables ((tablesOf (p .lines)) .1) ++ more) ((storedOf (done (p .lines))) .layout) ((storedOf (done (p .lines))) .conditions)
+    whole : W ≡ workspace (flatTables (tablesIn (p .lines)) ++ more) ((storedOf (done (p .lines))) .layout) ((storedOf (done (p .lines))) .conditions)
     whole = ap₂ (λ (cells : List ℤ) (z : StoredQuery). workspace cells (z .layout) (z .conditions)) (run-kept p before after run room) (p .kept)
 
     abbrev found : List Row

@@ -25,7 +25,7 @@ use Rattle.plan.specs.Questions.{namesRightSide, question5, question8, question
 use Rattle.plan.specs.declared.query.StoredQuery.{StoredQuery}
 use Rattle.text.specs.Bytes.{Bytes}
 use Rattle.text.specs.Lines.{Line}
-use Rattle.text.specs.Reading.{tablesOf, textLines, reportOf}
+use Rattle.text.specs.Reading.{tablesIn, textLines, reportOf}
 use Rattle.plan.specs.TableQuestions.{cellsInTables, question3, question4}
 use Rattle.load.specs.Cells.{laid, textCells}
 use Rattle.load.specs.Flat.{flatRows, flatTables, text-cells}
@@ -37,7 +37,7 @@ use Rattle.reader.specs.Whole.{table-count}
 use Rattle.reader.specs.Looked.{flat-length}
 use Rattle.accept.specs.Accept.{Passed}
 use Rattle.accept.specs.AcceptLaws.{fits-tables, keeps, passed-tables}
-use Rattle.engine.specs.Readable.{few-cells, early}
+use Rattle.engine.specs.Readable.{few-cells}
 
 -- ---- queries that differ in their P lines only
 
@@ -116,7 +116,7 @@ module _ {bs : Bytes} {s : StoredQuery} (p : Passed bs s) where
   pub some-table : 1 ≤ s .«table_count»
   unfolding tableCount queryOf reportOf
   some-table =
-      let n : tableCount here ≡ length ((tablesOf ls) .1) = length-map ((tablesOf ls) .1) (λ (t : Table). t .columns) in
+      let n : tableCount here ≡ length (tablesIn ls) = length-map (tablesIn ls) (λ (t : Table). t .columns) in
       omega (arith, tables-kept, n, fits-tables ls (p .fits) .0)
 
   -- ---- the tree
@@ -144,12 +144,12 @@ module _ {bs : Bytes} {s : StoredQuery} (p : Passed bs s) where
 
   -- the run that the text leaves: its cells, and what was there behind them
   pub run-kept : (before after : List ℤ) → after ≡ runAfter bs before → 4096 ≤ length before
-      → after ≡ flatTables ((tablesOf ls) .1) ++ drop (length (flatTables ((tablesOf ls) .1))) before
+      → after ≡ flatTables (tablesIn ls) ++ drop (length (flatTables (tablesIn ls))) before
   unfolding laid
   run-kept before after e h =
-      let cells = flatTables ((tablesOf ls) .1) in
-      let l : length cells ≤ 4096 = rw (tables-length ((tablesOf ls) .1)) (few-cells ls (p .fits)) in
+      let cells = flatTables (tablesIn ls) in
+      let l : length cells ≤ 4096 = rw (tables-length (tablesIn ls)) (few-cells ls (p .fits)) in
       e ∙ sym (run-accepted bs before (storedOf (done ls)) says-kept)
-      ∙ ap (λ (zs : List ℤ). laid before 0 zs) (text-cells bs ls (p .read) (early p))
+      ∙ ap (λ (zs : List ℤ). laid before 0 zs) (text-cells bs ls (p .read))
       ∙ sets-eq cells before 0 (omega arith)
       ∙ rw (zero-add (length cells))

@@ -27,7 +27,7 @@ use Rattle.plan.specs.QueryLaws.{Accepted, query-matched, query-built, query-sh
 use Rattle.plan.specs.declared.query.StoredQuery.{StoredQuery}
 use Rattle.text.specs.Bytes.{Bytes}
 use Rattle.text.specs.Lines.{Line}
-use Rattle.text.specs.Reading.{tablesOf, conditionsOf, reportOf}
+use Rattle.text.specs.Reading.{tablesIn, conditionsIn, reportOf}
 use Rattle.load.specs.Flat.{flatTables}
 use Rattle.reader.specs.Query.{storedOf, done, stored-numbered}
 use Rattle.joins.specs.Work.{workspace}
@@ -70,12 +70,12 @@ module _ {bs : Bytes} {s : StoredQuery} (p : Passed bs s) (passed : refusal bs �
 
   -- work space over the run that the text leaves
   abbrev W : Database ℕ
-  W = workspace (flatTables ((tablesOf ls) .1) ++ more) ((storedOf (done ls)) .layout) ((storedOf (done ls)) .conditions)
+  W = workspace (flatTables (tablesIn ls) ++ more) ((storedOf (done ls)) .layout) ((storedOf (done ls)) .conditions)
 
-  few : length ((tablesOf ls) .1) ≤ 8
+  few : length (tablesIn ls) ≤ 8
   few = fits-tables ls (p .fits) .1
 
-  numbered : length (conditionsOf ls) ≤ 64
+  numbered : length (conditionsIn ls) ≤ 64
   numbered = subst (λ (n : ℕ). n ≤ 64) (ap (λ (x : StoredQuery). x .«condition_count») (p .kept) ∙ stored-numbered ls) (p .conditions)
 
   query-tree : Shaped laws (joinTree q)

@@ -15,10 +15,10 @@ use Rattle.plan.specs.Questions.{question5}
 use Rattle.plan.specs.declared.query.StoredQuery.{StoredQuery}
 use Rattle.text.specs.Bytes.{Bytes}
 use Rattle.text.specs.Lines.{Line}
-use Rattle.text.specs.Reading.{tablesOf, textLines, reportOf}
+use Rattle.text.specs.Reading.{earlyRows, tablesIn, textLines, reportOf}
 use Rattle.plan.specs.TableQuestions.{cellsInTables, tableFits, question3}
-use Rattle.reader.specs.Query.{storedOf, done, stored-tables, no-early-row}
-use Rattle.reader.specs.Outcome.{lines-placed}
+use Rattle.text.specs.ReadingLaws.{no-early-row}
+use Rattle.reader.specs.Query.{storedOf, done, stored-tables}
 use Rattle.reader.specs.Looked.{noTable, rows-at}
 use Rattle.reader.specs.Whole.{table-count, columns-whole}
 use Rattle.reader.specs.Ranges.{joins-room, join-range, join-sides}
@@ -28,7 +28,7 @@ use Rattle.run.specs.Reading.{Readable, joinAt, noJoin}
 
 module _ (ls : List Line) (fits : question3 (reportOf ls) ≡ true) where
   abbrev ts : List Table
-  ts = (tablesOf ls) .1
+  ts = tablesIn ls
 
   -- question 3: the cells, and each table's rows
   three : T (all tableFits ts) × T (leb (cellsInTables ts) 4096)
@@ -49,15 +49,15 @@ module _ (ls : List Line) (fits : question3 (reportOf ls) ≡ true) where
       let y = all-elim tableFits ts (three .0) x (getD-isIn ts t noTable h) in
       leb-yes (and-yes (leb 1 (x .columns) && leb (x .columns) 8) (leb (length (x .rows)) 256) y .1)
 
-  pub table-rows : (tablesOf ls) .0 ≡ [] → (t : ℕ) → t < length ts → getD ((storedOf (done ls)) .layout .rows) t 0 ≤ 256
+  pub table-rows : earlyRows ls ≡ [] → (t : ℕ) → t < length ts → getD ((storedOf (done ls)) .layout .rows) t 0 ≤ 256
   table-rows early t h = rw (rows-at ls early (fits-tables ls fits .1) few-cells t h) (few-rows t h)
 
 module _ {bs : Bytes} {s : StoredQuery} (p : Passed bs s) where
   abbrev lines : List Line
   lines = p .lines
 
-  pub early : (tablesOf lines) .0 ≡ []
-  early = no-early-row 0 lines (λ z. omega arith) (lines-placed bs lines (p .read))
+  pub early : earlyRows lines ≡ []
+  early = no-early-row bs lines (p .read)
 
   pub readable : T (question5 (queryOf (reportOf lines))) → Readable (storedOf (done lines))
   unfolding joinAt tableCount
@@ -65,7 +65,7 @@ module _ {bs : Bytes} {s : StoredQuery} (p : Passed bs s) where
       let q : StoredQuery = storedOf (done lines) in
       let few : q .«join_count» ≤ 7 = subst (λ (x : StoredQuery). x .«join_count» ≤ 7) (p .kept) (p .joins) in
       let n : q .«table_count» ≡ tableCount (queryOf (reportOf lines)) = table-count lines in
-      let eight : length ((tablesOf lines) .1) ≤ 8 = fits-tables lines (p .fits) .1 in
+      let eight : length (tablesIn lines) ≤ 8 = fits-tables lines (p .fits) .1 in
       record {
         tables = rw (stored-tables lines) eight;
         width = ap length (columns-whole lines eight) ∙ sym n;

@@ -36,7 +36,7 @@ use Rattle.plan.specs.Words.{wordsTo, setWords}
 use Rattle.plan.specs.declared.query.StoredQuery.{StoredQuery}
 use Rattle.plan.specs.declared.steps.StepList.{StepList}
 use Rattle.text.specs.Bytes.{Bytes}
-use Rattle.text.specs.Reading.{tablesOf, reportOf}
+use Rattle.text.specs.Reading.{tablesIn, reportOf}
 use Rattle.load.specs.Flat.{flatTables}
 use Rattle.reader.specs.Query.{storedOf, done}
 use Rattle.reader.specs.Outcome.{runAfter}
@@ -167,11 +167,11 @@ module _ {bs : Bytes} {s : StoredQuery} (p : Passed bs s) (passed : refusal bs �
     module _ (before after : List ℤ) (run : after ≡ runAfter bs before) (room : 4096 ≤ length before) (nine : question9 q ≡ true)
         (ten : question10 q ≡ true) (w w′ : List ℕ) where
       abbrev more : List ℤ
-      more = drop (length (flatTables ((tablesOf (p .lines)) .1))) before
+      more = drop (length (flatTables (tablesIn (p .lines)))) before
 
       -- work space, over the run that the text leaves
       abbrev W : Database ℕ
-      W = workspace (flatTables ((tablesOf (p .lines)) .1) ++ more) ((storedOf (done (p .lines))) .layout) ((storedOf (done (p .lines))) .conditions)
+      W = workspace (flatTables (tablesIn (p .lines)) ++ more) ((storedOf (done (p .lines))) .layout) ((storedOf (done (p .lines))) .conditions)
 
       abbrev n : ℕ
       n = tableCount q
@@ -295,7 +295,7 @@ module _ {bs : Bytes} {s : StoredQuery} (p : Passed bs s) (passed : refusal bs �
       Z = workspace after (s .layout) (s .conditions)
 
       abbrev kept : List ℤ
-      kept = flatTables ((tablesOf (p .lines)) .1) ++ drop (length (flatTables ((tablesOf (p .lines)) .1))) before
+      kept = flatTables (tablesIn (p .lines)) ++ drop (length (flatTables (tablesIn (p .lines)))) before
 
       whole : Z ≡ workspace kept ((storedOf (done (p .lines))) .layout) ((storedOf (done (p .lines))) .conditions)
       whole = ap₂ (λ (cells : List ℤ) (z : StoredQuery). workspace cells (z .layout) (z .conditions)) (run-kept p before after run room) (p .kept)

@@ -25,7 +25,7 @@ use Rattle.plan.specs.PlanLaws.{order-built, plan-shaped}
 use Rattle.plan.specs.StepLists.{StepList}
 use Rattle.plan.specs.declared.query.StoredQuery.{StoredQuery}
 use Rattle.text.specs.Lines.{Line}
-use Rattle.text.specs.Reading.{tablesOf, conditionsOf, reportOf}
+use Rattle.text.specs.Reading.{earlyRows, tablesIn, conditionsIn, reportOf}
 use Rattle.plan.specs.TableQuestions.{cellsInTables, question4}
 use Rattle.load.specs.Flat.{flatTables}
 use Rattle.reader.specs.Query.{storedOf, done}
@@ -40,8 +40,8 @@ use Rattle.run.specs.Runs.{runRows, directRows}
 use Rattle.run.specs.Padding.{pad, Wide, workspace-pad, finished-wide, finished-pad, flat-pad}
 use Rattle.run.specs.WidthLaws.{rows-pad}
 
-module _ (ls : List Line) (early : (tablesOf ls) .0 ≡ []) (fits : length ((tablesOf ls) .1) ≤ 8)
-    (few : cellsInTables ((tablesOf ls) .1) ≤ 4096) (even : question4 (reportOf ls) ≡ true) (numbered : length (conditionsOf ls) ≤ 64)
+module _ (ls : List Line) (early : earlyRows ls ≡ []) (fits : length (tablesIn ls) ≤ 8)
+    (few : cellsInTables (tablesIn ls) ≤ 4096) (even : question4 (reportOf ls) ≡ true) (numbered : length (conditionsIn ls) ≤ 64)
     (more : List ℤ) where
   abbrev s : StoredQuery
   s = storedOf (done ls)
@@ -51,7 +51,7 @@ module _ (ls : List Line) (early : (tablesOf ls) .0 ≡ []) (fits : length ((tab
 
   -- the run that the text leaves
   abbrev run : List ℤ
-  run = flatTables ((tablesOf ls) .1) ++ more
+  run = flatTables (tablesIn ls) ++ more
 
   cells-same : (t row column : ℕ) → cellsIn run (s .layout) t row column ≡ cellsOf r t row column
   unfolding cellsOf tableAt noTable reportOf
@@ -65,9 +65,9 @@ module _ (ls : List Line) (early : (tablesOf ls) .0 ≡ []) (fits : length ((tab
       ∙ true-cells (cellsIn run (s .layout)) (cellsOf r) cells-same (getD (s .conditions) c noCondition) row
       ∙ condition-seen ls numbered (cellsOf r) c row
 
-  width : tableCount (queryOf r) ≡ length ((tablesOf ls) .1)
+  width : tableCount (queryOf r) ≡ length (tablesIn ls)
   unfolding tableCount queryOf reportOf
-  width = length-map ((tablesOf ls) .1) (λ (t : Table). t .columns)
+  width = length-map (tablesIn ls) (λ (t : Table). t .columns)
 
   pub counts : (t : ℕ) → t < tableCount (queryOf r) → workspace run (s .layout) (s .conditions) .rowCount t ≡ rowsIn r t
   unfolding workspace rowsIn tableAt noTable reportOf
