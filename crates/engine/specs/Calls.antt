@@ -6,6 +6,7 @@ use Prim.Native.Nat.{ℕ, _-_}
 use lib.Dec.{leb}
 use lib.IntN.{ℤ, pos}
 use lib.ListN.{length, drop, replicate}
+use Rattle.cells.specs.Limits.{mostTables, cellRoom, workRoom, resultRoom, stepListRoom}
 use Rattle.cells.specs.Row.{Row}
 use Rattle.plan.specs.Steps.{zeroStep}
 use Rattle.plan.specs.declared.step.Step.{Step}
@@ -23,11 +24,11 @@ pub record Lent : Type 0 where
 -- 1, without the step list: "Has the work buffer at least 16,384 and the result buffer at least 2,048 16-bit numbers, the cell
 -- run at least 4,096 numbers ..?"
 unfoldable pub question1Direct : Lent → Bool
-question1Direct m = leb 16384 (length (m .work)) && leb 2048 (length (m .result)) && leb 4096 (length (m .cells))
+question1Direct m = leb workRoom (length (m .work)) && leb resultRoom (length (m .result)) && leb cellRoom (length (m .cells))
 
 -- 1: ".. and the step list (not lent for the direct reading) at least 16 steps?"
 unfoldable pub question1 : Lent → List Step → Bool
-question1 m steps = question1Direct m && leb 16 (length steps)
+question1 m steps = question1Direct m && leb stepListRoom (length steps)
 
 -- "writes rows × tables numbers, row after row; the rest of the result buffer keeps its contents"
 unfoldable pub written : List Row → List ℕ → List ℕ
@@ -58,7 +59,7 @@ pub record ReportCall : Type 0 where
   pub steps : List Step
 
 unfoldable pub noSets : List ℕ
-noSets = replicate 8 0
+noSets = replicate mostTables 0
 
 -- a call that question 1 did not turn down
 unfoldable pub reportAfter : Outcome ReportAnswer → Lent → List Step → ReportCall

@@ -10,8 +10,6 @@ pub mod Examples
 pub mod CallLaws
 pub mod Demand3Calls
 pub mod Seen
-pub mod Readable
-pub mod Asked
 pub mod Kept
 pub mod Reached
 pub mod Gave
