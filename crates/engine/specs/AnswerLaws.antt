@@ -115,6 +115,23 @@ module _ {A : Type 0} (qs : List (Question Report)) (answer : Report → A) (tex
       go none h = ap refused (let k : _≡_ {A = ℕ} 2 n = cc in k)
       go (some r) h = ap (λ (y : Option ℕ). elim y as (λ z. Outcome A) [ some k ↦ refused k | none ↦ answered (answer r) ]) (no-then sharedQuestions qs r n h)
 
+-- a text that is answered has a report, which no question turns down
+pub answered-report : {A : Type 0} (qs : List (Question Report)) (answer : Report → A) (bs : Bytes) (a : A) → outcomeBy qs answer bs ≡ answered a
+    → (r : Report) × (readReport bs ≡ some r) × (firstNo qs r ≡ none) × (answer r ≡ a)
+unfolding outcomeBy outcomeFor
+answered-report {A} qs answer bs a e = go (readReport bs) refl e
+  where
+    yes : (r : Report) → readReport bs ≡ some r → (y : Option ℕ) → firstNo qs r ≡ y
+        → _≡_ {A = Outcome A} (elim y [ some n ↦ refused n | none ↦ answered (answer r) ]) (answered a)
+        → (r : Report) × (readReport bs ≡ some r) × (firstNo qs r ≡ none) × (answer r ≡ a)
+    yes r f none g h = (r, f, g, cc)
+    yes r f (some n) g h = clash cc
+
+    go : (o : Option Report) → readReport bs ≡ o → outcomeFor qs answer o ≡ answered a
+        → (r : Report) × (readReport bs ≡ some r) × (firstNo qs r ≡ none) × (answer r ≡ a)
+    go none f h = clash cc
+    go (some r) f h = yes r f (firstNo qs r) refl h
+
 -- ---- numbers
 
 -- no question has the number 0

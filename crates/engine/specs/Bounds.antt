@@ -8,7 +8,6 @@ use native.Mathlib.Omega.{arith}
 use lib.Dec.{T, leb, eqb}
 use lib.ListN.{length, length-map, length-append}
 use mir.Facts.{and-yes, leb-yes, eqb-yes}
-use Rattle.cells.specs.BoolLaws.{clash}
 use Rattle.cells.specs.Choice.{if_then_else_}
 use Rattle.cells.specs.Limits.{mostTables, mostRows, mostCells, mostSteps}
 use Rattle.cells.specs.Row.{Row, blankRow}
@@ -21,11 +20,11 @@ use Rattle.rows.specs.Trees.{Database, Tree, rowsOf}
 use Rattle.rows.specs.TreeLaws.{rows-valid}
 use Rattle.rows.specs.Nullification.{Blanking, nullifyAll, finished, planRows}
 use Rattle.rows.specs.NullificationLaws.{nullifyRow, nullifyAll-map}
-use Rattle.plan.specs.Asking.{Question, firstNo, about, sharedQuestions, orderQuestions, questionsOfReport, questionsOfDirect}
+use Rattle.plan.specs.Asking.{firstNo, about, sharedQuestions, orderQuestions, questionsOfReport, questionsOfDirect}
 use Rattle.plan.specs.AskingLaws.{append-yes, first-yes, all-yes, first-about}
 use Rattle.plan.specs.Report.{Table, Report, Query, queryOf, tableCount, tableNumbers, joinOrder}
 use Rattle.plan.specs.Nodes.{joinTrees, joinTree}
-use Rattle.plan.specs.Plan.{plannedJoins, planTrees, planTree, missing, asks, blankings}
+use Rattle.plan.specs.Plan.{groundOf, plannedJoins, planTrees, planTree, missing, asks, blankings}
 use Rattle.plan.specs.PairWordLaws.{planned-count}
 use Rattle.plan.specs.PlanLaws.{plan-matched, order-built, plan-shaped}
 use Rattle.plan.specs.Questions.{lowerSides, sidesOf, noneTwice, wellBuilt, question9}
@@ -41,8 +40,8 @@ use Rattle.run.specs.DatabaseLaws.{lawful, lawful-names, database-width}
 use Rattle.run.specs.LimitLaws.{within256, within-small, results-whole}
 use Rattle.run.specs.Padding.{finished-wide}
 use Rattle.run.specs.Runs.{results, withinLimit, directRows, question11Direct, runRows, reportRows, pairCounts, reportSteps, question11}
-use Rattle.engine.specs.Answers.{Outcome, refused, answered, directQuestions, reportQuestions, outcomeFor, outcomeBy, ReportAnswer, reportAnswer, reportOutcome, directOutcome}
-use Rattle.engine.specs.AnswerLaws.{read-well, three-yes, report-accepted, rows-limit, few-rows}
+use Rattle.engine.specs.Answers.{answered, directQuestions, reportQuestions, ReportAnswer, reportAnswer, reportOutcome, directOutcome}
+use Rattle.engine.specs.AnswerLaws.{read-well, answered-report, three-yes, report-accepted, rows-limit, few-rows}
 use Rattle.engine.specs.Gave.{tablesIn}
 
 -- best match adds no row
@@ -84,23 +83,23 @@ unfolding bestMatchStep
 best-one [] = omega arith
 best-one (s ∷ L) = omega arith
 
-pub plan-steps : (q : Query) (counts : List ℕ) → length (stepsOf q counts) ≤ length (joinOrder q) + tableCount q + 1
+pub plan-steps : (q : Query) (counts : List ℕ) → length (stepsOf (groundOf q) counts) ≤ length (joinOrder q) + tableCount q + 1
 unfolding stepsOf blankings tableNumbers
 plan-steps q counts =
-    let A = zipWith pairStep (plannedJoins q) counts in
-    let B = map blankingStep (blankings q) in
-    let C = bestMatchStep (blankings q) in
+    let A = zipWith pairStep (plannedJoins (groundOf q)) counts in
+    let B = map blankingStep (blankings (groundOf q)) in
+    let C = bestMatchStep (blankings (groundOf q)) in
     omega (
       arith,
       length-append (A ++ B) C,
       length-append A B,
-      zip-fewer pairStep (plannedJoins q) counts,
-      planned-count q,
-      length-map (blankings q) blankingStep,
-      keep-fewer (asks q) (map (λ (t : ℕ). (t, missing q t)) (range 0 (tableCount q))),
-      length-map {B = Blanking ℕ} (range 0 (tableCount q)) (λ (t : ℕ). (t, missing q t)),
+      zip-fewer pairStep (plannedJoins (groundOf q)) counts,
+      planned-count (groundOf q),
+      length-map (blankings (groundOf q)) blankingStep,
+      keep-fewer asks (map (λ (t : ℕ). (t, missing (groundOf q) t)) (range 0 (tableCount q))),
+      length-map {B = Blanking ℕ} (range 0 (tableCount q)) (λ (t : ℕ). (t, missing (groundOf q) t)),
       length-range 0 (tableCount q),
-      best-one (blankings q),
+      best-one (blankings (groundOf q)),
     )
 
 module _ (r : Report) (well : WellRead (queryOf r)) (accepted : firstNo sharedQuestions r ≡ none) where
@@ -166,34 +165,17 @@ module _ (r : Report) (well : WellRead (queryOf r)) (accepted : firstNo sharedQu
     pub report-few : T (question11 r) → length (reportRows r) ≤ mostRows
     unfolding question11 withinLimit results planTree planTrees reportRows runRows planRows
     report-few h =
-        let y = within-small (database r) few-each (planTree q) (results-whole (database r) few-each q (plan-matched q) built h) in
-        let z : length (rowsOf (database r) (planTree q)) ≤ mostRows = leb-yes y in
-        omega (arith, finished-fewer (database r) (blankings q) (rowsOf (database r) (planTree q)), z)
+        let y = within-small (database r) few-each (planTree (groundOf q)) (results-whole (database r) few-each q (plan-matched (groundOf q)) built h) in
+        let z : length (rowsOf (database r) (planTree (groundOf q))) ≤ mostRows = leb-yes y in
+        omega (arith, finished-fewer (database r) (blankings (groundOf q)) (rowsOf (database r) (planTree (groundOf q))), z)
 
     pub report-wide : (row : Row) → row isIn reportRows r → length row ≡ tableCount q
     unfolding reportRows runRows planRows database databaseOf
-    report-wide = finished-wide (database r) (tableCount q) (blankings q) (rowsOf (database r) (planTree q))
-        (λ row m. rows-valid laws (planTree q)
-        (plan-shaped q laws (database-width q (rowsIn r) (cellsOf r) small) (lawful-names q (rowsIn r) (cellsOf r) small) built) row m .len)
+    report-wide = finished-wide (database r) (tableCount q) (blankings (groundOf q)) (rowsOf (database r) (planTree (groundOf q)))
+        (λ row m. rows-valid laws (planTree (groundOf q))
+        (plan-shaped (groundOf q) laws (database-width q (rowsIn r) (cellsOf r) small) (lawful-names q (rowsIn r) (cellsOf r) small) built) row m .len)
 
 -- ---- a text that is answered
-
--- its report, which no question turned down
-pub answered-report : {A : Type 0} (qs : List (Question Report)) (answer : Report → A) (bs : Bytes) (a : A) → outcomeBy qs answer bs ≡ answered a
-    → (r : Report) × (readReport bs ≡ some r) × (firstNo qs r ≡ none) × (answer r ≡ a)
-unfolding outcomeBy outcomeFor
-answered-report {A} qs answer bs a e = go (readReport bs) refl e
-  where
-    yes : (r : Report) → readReport bs ≡ some r → (y : Option ℕ) → firstNo qs r ≡ y
-        → _≡_ {A = Outcome A} (elim y [ some n ↦ refused n | none ↦ answered (answer r) ]) (answered a)
-        → (r : Report) × (readReport bs ≡ some r) × (firstNo qs r ≡ none) × (answer r ≡ a)
-    yes r f none g h = (r, f, g, cc)
-    yes r f (some n) g h = clash cc
-
-    go : (o : Option Report) → readReport bs ≡ o → outcomeFor qs answer o ≡ answered a
-        → (r : Report) × (readReport bs ≡ some r) × (firstNo qs r ≡ none) × (answer r ≡ a)
-    go none f h = clash cc
-    go (some r) f h = yes r f (firstNo qs r) refl h
 
 -- what an answer of either run has
 pub record Bounded (tables : ℕ) (rows : List Row) : Type 0 where

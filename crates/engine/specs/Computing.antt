@@ -9,11 +9,11 @@ use Rattle.rows.specs.Rows.{single, over, merge, same, before, ordered, whollyB
 use Rattle.rows.specs.Trees.{tablesUnder, outerProduct, allTrue, matches, joined, rowsOf}
 use Rattle.rows.specs.Nullification.{nullify, nullifyAll, finished, planRows}
 use Rattle.plan.specs.Report.{queryOf, tableCount, tableNumbers, conditionNumbers, noCondition, conditionAt, namedBy, joinPairs, orderOr, joinOrder}
-use Rattle.plan.specs.Nodes.{grown, tablesAt, tablesOfPair, nodesOf, joinNodes, orderNodes, treeAt, treeOf, treesOf, lastTree, joinTrees, joinTree}
+use Rattle.plan.specs.Nodes.{grown, tablesAt, tablesOfPair, nodesOf, joinNodes, treeAt, treeOf, treesOf, lastTree, joinTrees, joinTree}
 use Rattle.plan.specs.Sets.{setOf, blanksLeft, blanksRight, taken, setAfter, setsAfter, setsBy, emptySets, blankingSets}
-use Rattle.plan.specs.Plan.{between, crosses, inEvery, usable, paired, fitsKind, usableAt, allIn, planned, plannedJoins, planTrees, planTree, appliedSets, missing, asks, blankings}
+use Rattle.plan.specs.Plan.{between, crosses, inEvery, usable, paired, fitsKind, orderNodes, usableAt, allIn, pairFits, planned, plannedJoins, planTrees, planTree, pairSets, appliedSets, missing, asks, blankings}
 use Rattle.plan.specs.Steps.{bitsOf, kindNumber, pairStep, blankingStep, bestMatchStep, zeroStep, stepsOf}
-use Rattle.plan.specs.Questions.{lowerSides, sidesOf, noneTwice, wellBuilt, question5, noneOrBuilt, question9, columnExists, sideExists, conditionFits, question6, question7, rightSides, namesRightSide, question8, question10}
+use Rattle.plan.specs.Questions.{lowerSides, sidesOf, noneTwice, wellBuilt, question5, noneOrBuilt, question9, columnExists, sideExists, conditionFits, question6, question7, rightSides, namesRightSide, question8, kindsFit, question10}
 use Rattle.text.specs.Bytes.{bytes, tab, lineFeed, sameBytes, cut, split, closed}
 use Rattle.text.specs.Numbers.{digit, decimal, valueOf, natural, small, positive, negative, number, ifMade, constant, cell}
 use Rattle.text.specs.Lines.{kindOf, field, oneOf, end, both, readAll, word, numberField, kindField, operatorField, cellFields, formT, formD, formJ, formC, formK, formP, firstOf, lineOf, linesOf}
@@ -27,5 +27,5 @@ use Rattle.engine.specs.Answers.{reportQuestions, directQuestions, outco
 use Rattle.engine.specs.Programs.{printReport, printDirect, report, direct}
 
 unfoldable pub computing : Unit {0}
-unfolding flatMap zipWith blankCell lowestCell highestCell cellOf eqZ isBlank columnOf outcomeOf never operators says holds blankRow cellIn sideIn trueIn sideNames namesOf ownCell cellsIn range all any keep orElse distinct insert sort has single over merge same before ordered whollyBlank within dominated bestMatch tablesUnder outerProduct allTrue matches joined rowsOf nullify nullifyAll finished planRows queryOf tableCount tableNumbers conditionNumbers noCondition conditionAt namedBy joinPairs orderOr joinOrder grown tablesAt tablesOfPair nodesOf joinNodes orderNodes treeAt treeOf treesOf lastTree joinTrees joinTree setOf blanksLeft blanksRight taken setAfter setsAfter setsBy emptySets blankingSets between crosses inEvery usable paired fitsKind usableAt allIn planned plannedJoins planTrees planTree appliedSets missing asks blankings bitsOf kindNumber pairStep blankingStep bestMatchStep zeroStep stepsOf lowerSides sidesOf noneTwice wellBuilt question5 noneOrBuilt question9 columnExists sideExists conditionFits question6 question7 rightSides namesRightSide question8 question10 bytes tab lineFeed sameBytes cut split closed digit decimal valueOf natural small positive negative number ifMade constant cell kindOf field oneOf end both readAll word numberField kindField operatorField cellFields formT formD formJ formC formK formP firstOf lineOf linesOf partOf mayFollow placed tablesOf joinsOf conditionsOf pairsOf reportOf ifPlaced textLines readReport cellsInRows cellsInTables tableFits question3 question4 digitsOf printNumber printFields hasBit bitNumbers printEntry printSets kindLetter printStep printRow printRefusal databaseOf tableAt rowsIn cellsOf database results withinLimit directRows question11Direct runRows reportRows pairCounts reportSteps question11 firstNo about tableQuestions queryQuestions orderQuestions sharedQuestions questionsOfReport questionsOfDirect reportQuestions directQuestions outcomeFor outcomeBy reportAnswer reportOutcome directOutcome printReport printDirect report direct
+unfolding flatMap zipWith blankCell lowestCell highestCell cellOf eqZ isBlank columnOf outcomeOf never operators says holds blankRow cellIn sideIn trueIn sideNames namesOf ownCell cellsIn range all any keep orElse distinct insert sort has single over merge same before ordered whollyBlank within dominated bestMatch tablesUnder outerProduct allTrue matches joined rowsOf nullify nullifyAll finished planRows queryOf tableCount tableNumbers conditionNumbers noCondition conditionAt namedBy joinPairs orderOr joinOrder grown tablesAt tablesOfPair nodesOf joinNodes orderNodes treeAt treeOf treesOf lastTree joinTrees joinTree setOf blanksLeft blanksRight taken setAfter setsAfter setsBy emptySets blankingSets between crosses inEvery usable paired fitsKind usableAt allIn pairFits planned plannedJoins planTrees planTree pairSets appliedSets missing asks blankings bitsOf kindNumber pairStep blankingStep bestMatchStep zeroStep stepsOf lowerSides sidesOf noneTwice wellBuilt question5 noneOrBuilt question9 columnExists sideExists conditionFits question6 question7 rightSides namesRightSide question8 kindsFit question10 bytes tab lineFeed sameBytes cut split closed digit decimal valueOf natural small positive negative number ifMade constant cell kindOf field oneOf end both readAll word numberField kindField operatorField cellFields formT formD formJ formC formK formP firstOf lineOf linesOf partOf mayFollow placed tablesOf joinsOf conditionsOf pairsOf reportOf ifPlaced textLines readReport cellsInRows cellsInTables tableFits question3 question4 digitsOf printNumber printFields hasBit bitNumbers printEntry printSets kindLetter printStep printRow printRefusal databaseOf tableAt rowsIn cellsOf database results withinLimit directRows question11Direct runRows reportRows pairCounts reportSteps question11 firstNo about tableQuestions queryQuestions orderQuestions sharedQuestions questionsOfReport questionsOfDirect reportQuestions directQuestions outcomeFor outcomeBy reportAnswer reportOutcome directOutcome printReport printDirect report direct
 computing = tt

@@ -7,6 +7,7 @@ use Prim.Native.Nat.{ℕ}
 use Rattle.rows.specs.Nullification.{Blanking}
 use Rattle.plan.specs.Asking.{firstNo, sharedQuestions, orderQuestions}
 use Rattle.plan.specs.Report.{queryOf}
+use Rattle.plan.specs.Plan.{groundOf}
 use Rattle.plan.specs.StepLists.{StepList}
 use Rattle.text.specs.Bytes.{Bytes}
 use Rattle.text.specs.Lines.{Line}
@@ -29,5 +30,5 @@ pub record SameQuery (first second : Bytes) (a b : List Line) : Type 0 where
 -- first text's tree read directly: as many, and row after row the same row number or blank in every table
 abbrev pub Demand3 : Type 0
 Demand3 = (first second : Bytes) (a b : List Line) → SameQuery first second a b
-    → (L : List (Blanking ℕ)) → StepList (queryOf (reportOf b)) L
+    → (L : List (Blanking ℕ)) → StepList (groundOf (queryOf (reportOf b))) L
     → runRows (reportOf b) L ≡ directRows (reportOf a)

@@ -15,9 +15,9 @@ use Rattle.plan.specs.Asking.{firstNo, about, sharedQuestions, orderQuestions, 
 use Rattle.plan.specs.AskingLaws.{all-yes, none-then, last-question, first-about}
 use Rattle.plan.specs.Nodes.{joinTree}
 use Rattle.plan.specs.Report.{Table, Join, Pair, Query, Report, queryOf, tableCount, joinPairs}
-use Rattle.plan.specs.Plan.{blankings}
+use Rattle.plan.specs.Plan.{groundOf, blankings}
 use Rattle.plan.specs.Questions.{question5, question9, question10, noneOrBuilt, wellBuilt}
-use Rattle.plan.specs.QueryLaws.{Accepted}
+use Rattle.plan.specs.QueryLaws.{WellRead}
 use Rattle.plan.specs.StepLists.{StepList, own-list}
 use Rattle.text.specs.Bytes.{Bytes}
 use Rattle.text.specs.Lines.{Line}
@@ -42,37 +42,33 @@ direct-same a b same =
         ≡ directRows (record { tables = u; joins = j; conditions = d; pairs = reportOf b .pairs })
     fields e f g = rw (e, f, g)
 
-module _ (ls : List Line) (accepted : firstNo sharedQuestions (reportOf ls) ≡ none) where
-  pub query-accepted : Accepted (queryOf (reportOf ls))
-  query-accepted = report-accepted (reportOf ls) accepted (report-well-read ls)
-
-  few : (t : ℕ) → rowsIn (reportOf ls) t ≤ blankRow
-  few = few-rows (reportOf ls) (three-yes (reportOf ls) accepted)
+module _ (r : Report) (well : WellRead (queryOf r)) (accepted : firstNo sharedQuestions r ≡ none) where
+  few : (t : ℕ) → rowsIn r t ≤ blankRow
+  few = few-rows r (three-yes r accepted)
 
   -- both runs of one accepted report whose order question 9 does not turn down
-  pub report-rows : T (question9 (queryOf (reportOf ls))) → (L : List (Blanking ℕ)) → StepList (queryOf (reportOf ls)) L
-      → runRows (reportOf ls) L ≡ directRows (reportOf ls)
-  report-rows = run-rows (reportOf ls) query-accepted few
+  pub report-rows : T (question9 (queryOf r)) → (L : List (Blanking ℕ)) → StepList (groundOf (queryOf r)) L → runRows r L ≡ directRows r
+  report-rows = run-rows r (report-accepted r accepted well) few
 
   -- the tree read directly has each due row once and no other, in rising order
-  pub report-reads : Reads (database (reportOf ls)) (joinTree (queryOf (reportOf ls))) (directRows (reportOf ls))
-  report-reads = direct-reads (reportOf ls) query-accepted few
+  pub report-reads : Reads (database r) (joinTree (queryOf r)) (directRows r)
+  report-reads = direct-reads r (report-accepted r accepted well) few
 
   -- question 10 turns down no accepted report
-  pub question10-never : T (question10 (queryOf (reportOf ls)))
-  question10-never = kinds-fit (reportOf ls) query-accepted few
+  pub question10-never : T (question10 (queryOf r))
+  question10-never = kinds-fit r (report-accepted r accepted well) few
 
 -- demand 3
 pub demand-3 : Demand3
 unfolding orderQuestions
 demand-3 first second a b s L list =
-    report-rows b (s .second-accepted) (all-yes orderQuestions (queryOf (reportOf b)) (s .order-admitted) (9, λ (q : Query). question9 q) (here refl)) L list
+    report-rows (reportOf b) (report-well-read b) (s .second-accepted) (all-yes orderQuestions (queryOf (reportOf b)) (s .order-admitted) (9, λ (q : Query). question9 q) (here refl)) L list
     ∙ sym (direct-same a b (s .same-query))
 
 -- the engine's own list is one of these
 pub demand-3-own-list : (first second : Bytes) (a b : List Line) → SameQuery first second a b → reportRows (reportOf b) ≡ directRows (reportOf a)
 unfolding reportRows
-demand-3-own-list first second a b s = demand-3 first second a b s (blankings (queryOf (reportOf b))) (own-list (queryOf (reportOf b)))
+demand-3-own-list first second a b s = demand-3 first second a b s (blankings (groundOf (queryOf (reportOf b)))) (own-list (groundOf (queryOf (reportOf b))))
 
 -- ---- the tree's own order
 
@@ -91,9 +87,10 @@ own-order-admitted r five (inr e) = rw e (built (joinPairs (queryOf r)) five)
 
 -- the tree's own order, with or without P lines, is admitted, and gives the rows of the tree read directly
 pub own-order-rows : (text : Bytes) (ls : List Line) → textLines text ≡ some ls → firstNo sharedQuestions (reportOf ls) ≡ none → OwnOrder ls
-    → (L : List (Blanking ℕ)) → StepList (queryOf (reportOf ls)) L → runRows (reportOf ls) L ≡ directRows (reportOf ls)
+    → (L : List (Blanking ℕ)) → StepList (groundOf (queryOf (reportOf ls))) L → runRows (reportOf ls) L ≡ directRows (reportOf ls)
 own-order-rows text ls read accepted own L list =
-    report-rows ls accepted (own-order-admitted (reportOf ls) (query-accepted ls accepted .five) own) L list
+    report-rows (reportOf ls) (report-well-read ls) accepted
+    (own-order-admitted (reportOf ls) (report-accepted (reportOf ls) accepted (report-well-read ls) .five) own) L list
 
 -- ---- what the two runs answer
 

@@ -10,7 +10,7 @@ use Rattle.cells.specs.Row.{Row}
 use Rattle.rows.specs.Nullification.{Blanking}
 use Rattle.plan.specs.Asking.{firstNo, sharedQuestions, orderQuestions}
 use Rattle.plan.specs.Report.{Report, queryOf}
-use Rattle.plan.specs.Plan.{blankings}
+use Rattle.plan.specs.Plan.{groundOf, blankings}
 use Rattle.plan.specs.StepLists.{StepList, isStepList, step-list}
 use Rattle.text.specs.Bytes.{Bytes}
 use Rattle.text.specs.Lines.{Line}
@@ -37,7 +37,7 @@ changed = text "T|2 D|10|1 D|11|2 T|2 D|10|7 D|11|8 T|1 D|7 J|I|1|2 C|1|1|=|2|0 
 unfoldable pub split : List (Blanking ℕ)
 split = (2, 1 ∷ []) ∷ (2, 0 ∷ []) ∷ (2, 1 ∷ 0 ∷ []) ∷ []
 
-engine-list : blankings (queryOf (reportOf (linesIn changed))) ≡ (2, 0 ∷ 1 ∷ []) ∷ []
+engine-list : blankings (groundOf (queryOf (reportOf (linesIn changed)))) ≡ (2, 0 ∷ 1 ∷ []) ∷ []
 unfolding computing changed linesIn text notation
 engine-list = refl
 
@@ -52,9 +52,9 @@ same-query = record {
   order-admitted = refl;
 }
 
-split-allowed : StepList (queryOf (reportOf (linesIn changed))) split
+split-allowed : StepList (groundOf (queryOf (reportOf (linesIn changed)))) split
 unfolding computing changed linesIn text notation isStepList split
-split-allowed = step-list (queryOf (reportOf (linesIn changed))) split tt
+split-allowed = step-list (groundOf (queryOf (reportOf (linesIn changed)))) split tt
 
 -- by demand 3
 by-demand-3 : runRows (reportOf (linesIn changed)) split ≡ directRows (reportOf (linesIn given))

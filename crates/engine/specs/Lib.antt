@@ -9,6 +9,7 @@ pub mod Demand3Proof
 pub mod Examples
 pub mod CallLaws
 pub mod Demand3Calls
+pub mod Demand2
 pub mod Seen
 pub mod Kept
 pub mod Reached

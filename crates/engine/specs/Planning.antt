@@ -7,7 +7,7 @@ use Rattle.cells.specs.Limits.{areas}
 use Rattle.rows.specs.Trees.{Database}
 use Rattle.plan.specs.Report.{joinOrder}
 use Rattle.plan.specs.Sets.{blankingSets}
-use Rattle.plan.specs.Plan.{planTrees, blankings}
+use Rattle.plan.specs.Plan.{groundOf, planTrees, blankings}
 use Rattle.plan.specs.Steps.{stepsOf}
 use Rattle.plan.specs.Stored.{queryIn}
 use Rattle.plan.specs.StepWords.{listed, withRows}
@@ -46,8 +46,8 @@ pub record StepsRun (D : Database ℕ) (q : StoredQuery) (w w′ : List ℕ) (r 
   pub counts : List ℕ
   pub joined : Joined
   pub long : length counts ≡ areas
-  pub ran : PlanRan D (planTrees (queryIn q)) (q .«table_count») (q .«table_count» - 1) (blankings (queryIn q)) counts w w′ joined
-  pub handed : r ≡ handedOver q (setWords (blankingSets (queryIn q))) (listed (stepsOf (queryIn q) (replicate (length (joinOrder (queryIn q))) 0)))
+  pub ran : PlanRan D (planTrees (groundOf (queryIn q))) (q .«table_count») (q .«table_count» - 1) (blankings (groundOf (queryIn q))) counts w w′ joined
+  pub handed : r ≡ handedOver q (setWords (blankingSets (queryIn q))) (listed (stepsOf (groundOf (queryIn q)) (replicate (length (joinOrder (queryIn q))) 0)))
       counts joined
 
 -- ---- an outcome

@@ -7,6 +7,7 @@ use native.Mathlib.Omega.{arith}
 use lib.ListN.{length, getD, take, replicate}
 use lib.Seq.{length-take-le, take-suc}
 use Rattle.plan.specs.Report.{Query, joinOrder}
+use Rattle.plan.specs.Plan.{groundOf}
 use Rattle.plan.specs.Steps.{stepsOf}
 use Rattle.plan.specs.StepWords.{listed, withRows}
 use Rattle.plan.specs.RowCounts.{countedSteps, no-rows, rows-next, all-rows}
@@ -28,19 +29,19 @@ counts-end s counts t i n e h k = let m : i ≡ n = omega arith in e ∙ ap (wit
 -- the plan with the counts of all its pairs
 module _ (q : Query) (counts : List ℕ) where
   some-rows : (k : ℕ) → k ≤ length counts → k ≤ length (joinOrder q)
-      → withCounts (listed (stepsOf q (replicate (length (joinOrder q)) 0))) counts k ≡ countedSteps q (take k counts)
+      → withCounts (listed (stepsOf (groundOf q) (replicate (length (joinOrder q)) 0))) counts k ≡ countedSteps (groundOf q) (take k counts)
   unfolding withCounts
-  some-rows zero h l = no-rows q
+  some-rows zero h l = no-rows (groundOf q)
   some-rows (suc k) h l =
       let n : length (take k counts) ≡ k = length-take-le k counts (omega arith) in
       ap (λ (s : StepList). withRows s k (getD counts k 0)) (some-rows k (omega arith) (omega arith))
-      ∙ ap (λ (i : ℕ). withRows (countedSteps q (take k counts)) i (getD counts k 0)) (sym n)
-      ∙ rows-next q (take k counts) (getD counts k 0) (omega arith)
-      ∙ ap (countedSteps q) (sym (take-suc counts k 0 (omega arith)))
+      ∙ ap (λ (i : ℕ). withRows (countedSteps (groundOf q) (take k counts)) i (getD counts k 0)) (sym n)
+      ∙ rows-next (groundOf q) (take k counts) (getD counts k 0) (omega arith)
+      ∙ ap (countedSteps (groundOf q)) (sym (take-suc counts k 0 (omega arith)))
 
   pub rows-counted : length (joinOrder q) ≤ length counts
-      → withCounts (listed (stepsOf q (replicate (length (joinOrder q)) 0))) counts (length (joinOrder q))
-      ≡ listed (stepsOf q (take (length (joinOrder q)) counts))
+      → withCounts (listed (stepsOf (groundOf q) (replicate (length (joinOrder q)) 0))) counts (length (joinOrder q))
+      ≡ listed (stepsOf (groundOf q) (take (length (joinOrder q)) counts))
   rows-counted h =
       some-rows (length (joinOrder q)) h (omega arith)
-      ∙ all-rows q (take (length (joinOrder q)) counts) (length-take-le (length (joinOrder q)) counts h)
+      ∙ all-rows (groundOf q) (take (length (joinOrder q)) counts) (length-take-le (length (joinOrder q)) counts h)

@@ -12,7 +12,7 @@ use lib.ListN.{length, take, replicate}
 use borrow.Author.Tests.{lt-ltb, le-ltb, le-leb, lt-leb}
 use Rattle.cells.specs.Limits.{areas, cellRoom, workRoom, resultRoom, stepListRoom}
 use Rattle.plan.specs.Report.{joinOrder}
-use Rattle.plan.specs.Plan.{blankings}
+use Rattle.plan.specs.Plan.{groundOf, blankings}
 use Rattle.plan.specs.Steps.{stepsOf}
 use Rattle.plan.specs.Questions.{question5, question9}
 use Rattle.plan.specs.Stored.{queryIn}
@@ -100,7 +100,7 @@ module _ (q : StoredQuery) (readable : Readable q) (five : T (question5 (queryIn
         counts = r .counts;
         joined = a;
         long = eight;
-        ran = lent-ran q (listed (stepsOf (queryIn q) (replicate (length (joinOrder (queryIn q))) 0))) refl readable five nine (q .«table_count»)
-            (q .«table_count» - 1) (length (blankings (queryIn q))) refl paired refl cells n enough r w w′ v v′ a long wide run ended;
+        ran = lent-ran q (listed (stepsOf (groundOf (queryIn q)) (replicate (length (joinOrder (queryIn q))) 0))) refl readable five nine (q .«table_count»)
+            (q .«table_count» - 1) (length (blankings (groundOf (queryIn q)))) refl paired refl cells n enough r w w′ v v′ a long wide run ended;
         handed = handed;
       }

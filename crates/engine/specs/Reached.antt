@@ -21,7 +21,7 @@ use Rattle.plan.specs.Asking.{firstNo, sharedQuestions}
 use Rattle.plan.specs.Database.{databaseOf, rowsIn, cellsOf, database}
 use Rattle.plan.specs.Report.{Report, Query, queryOf, tableCount, joinOrder}
 use Rattle.plan.specs.Nodes.{treeAt, treeOf, joinTrees, joinTree}
-use Rattle.plan.specs.Plan.{planTrees, planTree, blankings}
+use Rattle.plan.specs.Plan.{groundOf, planTrees, planTree, blankings}
 use Rattle.plan.specs.Questions.{lowerSides, sidesOf, noneTwice, wellBuilt, question9}
 use Rattle.plan.specs.BuiltLaws.{from-whole}
 use Rattle.plan.specs.PlanLaws.{plan-matched, order-built}
@@ -102,22 +102,22 @@ module _ {s : StoredQuery} {cells : List ℤ} {r : Report} (k : Stands s cells r
         let (a, b) = and-yes (eqb (suc n) (tableCount q) && lowerSides (tableCount q) (joinOrder q)) (noneTwice (sidesOf (joinOrder q))) built in
         eqb-yes (and-yes (eqb (suc n) (tableCount q)) (lowerSides (tableCount q) (joinOrder q)) a .0)
 
-    shaped : Shaped laws (planTree q)
+    shaped : Shaped laws (planTree (groundOf q))
     shaped = plan-tree k (counted k well yes .conditions) small ok nine
 
-    node-shaped : (i : ℕ) → i < length (planTrees q) → Shaped laws (treeAt (planTrees q) i)
+    node-shaped : (i : ℕ) → i < length (planTrees (groundOf q)) → Shaped laws (treeAt (planTrees (groundOf q)) i)
     unfolding planTree planTrees treeOf
-    node-shaped = from-whole q (plan-matched q) built (Shaped laws) (λ j h. (h .0, h .1)) shaped
+    node-shaped = from-whole q (plan-matched (groundOf q)) built (Shaped laws) (λ j h. (h .0, h .1)) shaped
 
     -- how many rows a node has
-    pub node-count : (i : ℕ) → i < length (planTrees q) → length (rowsOf W (treeAt (planTrees q) i)) ≡ length (rowsOf (database r) (treeAt (planTrees q) i))
-    node-count i h = rows-count (treeAt (planTrees q) i) (node-shaped i h)
+    pub node-count : (i : ℕ) → i < length (planTrees (groundOf q)) → length (rowsOf W (treeAt (planTrees (groundOf q)) i)) ≡ length (rowsOf (database r) (treeAt (planTrees (groundOf q)) i))
+    node-count i h = rows-count (treeAt (planTrees (groundOf q)) i) (node-shaped i h)
 
     -- the rows that are handed over
-    pub report-count : length (finished W (blankings q) (rowsOf W (planTree q))) ≡ length (reportRows r)
+    pub report-count : length (finished W (blankings (groundOf q)) (rowsOf W (planTree (groundOf q)))) ≡ length (reportRows r)
     unfolding reportRows runRows planRows
-    report-count = count-seen k (counted k well yes .conditions) small (planTree q) shaped (blankings q)
+    report-count = count-seen k (counted k well yes .conditions) small (planTree (groundOf q)) shaped (blankings (groundOf q))
 
-    pub report-numbers : flatMap (take (tableCount q)) (finished W (blankings q) (rowsOf W (planTree q))) ≡ flatMap (λ (row : Row). row) (reportRows r)
+    pub report-numbers : flatMap (take (tableCount q)) (finished W (blankings (groundOf q)) (rowsOf W (planTree (groundOf q)))) ≡ flatMap (λ (row : Row). row) (reportRows r)
     unfolding reportRows runRows planRows
-    report-numbers = numbers-seen k (counted k well yes .conditions) small (planTree q) shaped (blankings q)
+    report-numbers = numbers-seen k (counted k well yes .conditions) small (planTree (groundOf q)) shaped (blankings (groundOf q))

@@ -84,6 +84,7 @@ module _ {bs : Bytes} {before after : List ℤ} where
           subst (λ (u : List ℕ). Reported (reportOutcome bs) v u h) (sym g) (gives v (f ∙ ap turnedDown (away-number z)))
 
       prepared-run : Prepares bs before after p → Ran p → Ends p r w′ v v′ h → Reported (reportOutcome bs) v v′ h
+      unfolding readyBy readyFor orderQuestions numbersOf all
       prepared-run (away {a} {i} x e z) run end =
           turned z (refusal-positive bs i (early x e)) end (λ u f. report-early bs i u (early x e) f)
       prepared-run (passed {a} x e z) run end = go (firstNo orderQuestions (queryOf (k .report))) refl (z _ _ (k .stands))
@@ -92,19 +93,13 @@ module _ {bs : Bytes} {before after : List ℤ} where
           k = x .kept e
 
           go : (o : Option ℕ) → firstNo orderQuestions (queryOf (k .report)) ≡ o → p ≡ readyBy (a .query) o → Reported (reportOutcome bs) v v′ h
-          unfolding readyBy orderQuestions numbersOf all
           go (some i) f y = turned y (no-positive orderQuestions (queryOf (k .report)) i tt f) end
               (λ u g. report-order (k .read) (k .stands) (text-passed x e) i u f g)
           go none f y = report-ran (k .read) (k .stands) (text-passed x e) f v v′
               (subst (λ (cells : List ℤ). StepsRun (workspace cells (a .query .layout) (a .query .conditions)) (a .query) v v′ h) (k .run room)
               (ready-run (a .query) (text-readable x e) (five-kept (k .stands) (text-well x e) (text-passed x e))
               (nine-kept (k .stands) (text-well x e) (text-passed x e) f) after n enough w w′ v v′ long wide r h
-              (ran-ready (subst Ran y run)) (subst (λ (u : Prepared). Ends u r w′ v v′ h) y end)))
-            where
-              ran-ready : Ran (readyFor (a .query)) → Runs after (a .query) (laid (take (readyFor (a .query) .plan .count) (readyFor (a .query) .plan .steps)) n)
-                  (startRun (a .query)) w w′ r
-              unfolding readyFor
-              ran-ready t = t
+              (subst Ran y run) (subst (λ (u : Prepared). Ends u r w′ v v′ h) y end)))
 
 -- ---- a call
 

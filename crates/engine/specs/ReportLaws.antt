@@ -25,7 +25,7 @@ use Rattle.plan.specs.Report.{Report, Query, queryOf, tableCount, tableNumbers,
 use Rattle.plan.specs.Nodes.{treeOf, treesOf, treeAt, lastTree}
 use Rattle.plan.specs.NodeLaws.{grown-length}
 use Rattle.plan.specs.Sets.{Sets, setOf, blankingSets}
-use Rattle.plan.specs.Plan.{plannedJoins, planTrees, planTree, blankings}
+use Rattle.plan.specs.Plan.{groundOf, plannedJoins, planTrees, planTree, blankings}
 use Rattle.plan.specs.FoldWords.{blanking-proper}
 use Rattle.plan.specs.PairWordLaws.{planned-count}
 use Rattle.plan.specs.Questions.{question9}
@@ -84,12 +84,12 @@ handedBy q n counts (J.Rows k) = record {
   answer = Rows k;
   tables = n;
   sets = setWords (blankingSets q);
-  plan = withCounts (listed (stepsOf q (replicate (length (joinOrder q)) 0))) counts (n - 1);
+  plan = withCounts (listed (stepsOf (groundOf q) (replicate (length (joinOrder q)) 0))) counts (n - 1);
 }
 handedBy q n counts J.TooMany = turnedDown 11
 
 handed-by : (s : StoredQuery) (counts : List ℕ) (j : Joined)
-    → handedOver s (setWords (blankingSets (queryIn s))) (listed (stepsOf (queryIn s) (replicate (length (joinOrder (queryIn s))) 0))) counts j
+    → handedOver s (setWords (blankingSets (queryIn s))) (listed (stepsOf (groundOf (queryIn s)) (replicate (length (joinOrder (queryIn s))) 0))) counts j
     ≡ handedBy (queryIn s) (s .«table_count») counts j
 unfolding handedOver
 handed-by s counts (J.Rows k) = refl
@@ -151,7 +151,7 @@ module _ {bs : Bytes} {s : StoredQuery} {cells : List ℤ} {r : Report} (read : 
     n = tableCount q
 
     abbrev trees : List (Tree ℕ)
-    trees = planTrees q
+    trees = planTrees (groundOf q)
 
     nine : T (question9 q)
     nine = nine-yes k well yes admitted
@@ -166,7 +166,7 @@ module _ {bs : Bytes} {s : StoredQuery} {cells : List ℤ} {r : Report} (read : 
     unfolding planTrees treesOf tableNumbers
     nodes =
         let a : length {A = Tree ℕ} (map leaf (tableNumbers q)) ≡ n = length-map (tableNumbers q) leaf ∙ length-range 0 n in
-        grown-length treeOf (map leaf (tableNumbers q)) (plannedJoins q) ∙ ap₂ _+_ a (planned-count q)
+        grown-length treeOf (map leaf (tableNumbers q)) (plannedJoins (groundOf q)) ∙ ap₂ _+_ a (planned-count (groundOf q))
 
     -- the results of the pairs
     abbrev found : List (List Row)
@@ -226,16 +226,16 @@ module _ {bs : Bytes} {s : StoredQuery} {cells : List ℤ} {r : Report} (read : 
           ∙ sym (List·getD-map (λ (rows : List Row). length rows) found i (rowsOf (database r) (leaf 0))))
 
       -- the plan with its counts
-      steps-all : withCounts (listed (stepsOf q (replicate (length (joinOrder q)) 0))) counts (n - 1) ≡ listed (reportSteps r)
+      steps-all : withCounts (listed (stepsOf (groundOf q) (replicate (length (joinOrder q)) 0))) counts (n - 1) ≡ listed (reportSteps r)
       unfolding reportSteps
       steps-all =
           let e : n - 1 ≡ length (joinOrder q) = omega (arith, pairs) in
-          ap (withCounts (listed (stepsOf q (replicate (length (joinOrder q)) 0))) counts) e
+          ap (withCounts (listed (stepsOf (groundOf q) (replicate (length (joinOrder q)) 0))) counts) e
           ∙ rows-counted q counts (omega (arith, pairs, long, tables-few))
-          ∙ ap (λ (ns : List ℕ). listed (stepsOf q ns)) counts-all
+          ∙ ap (λ (ns : List ℕ). listed (stepsOf (groundOf q) ns)) counts-all
 
       -- the rows of the last node
-      last-node : treeAt trees (n + (n - 1) - 1) ≡ planTree q
+      last-node : treeAt trees (n + (n - 1) - 1) ≡ planTree (groundOf q)
       unfolding planTree lastTree
       last-node = ap (treeAt trees) (omega (arith, nodes, pairs))
 
@@ -246,14 +246,14 @@ module _ {bs : Bytes} {s : StoredQuery} {cells : List ℤ} {r : Report} (read : 
     tables-all = sym (length-map (blankingSets q) bitsOf ∙ blanking-proper q .each)
 
     -- the plan run
-    ran-gives : (w w′ : List ℕ) {x : Planned} (counts : List ℕ) (j : Joined) → length counts ≡ areas → PlanRan W trees n (n - 1) (blankings q) counts w w′ j
+    ran-gives : (w w′ : List ℕ) {x : Planned} (counts : List ℕ) (j : Joined) → length counts ≡ areas → PlanRan W trees n (n - 1) (blankings (groundOf q)) counts w w′ j
         → x ≡ handedBy q n counts j → Reported (reportOutcome bs) w w′ x
     unfolding plannedFor resultAfter reportAnswer written flatRows
     ran-gives w w′ counts _ long (ran m few each x) e =
-        let f : finished W (blankings q) (rowsOf W (treeAt trees (n + (n - 1) - 1))) ≡ finished W (blankings q) (rowsOf W (planTree q)) =
-        ap (λ (E : Tree ℕ). finished W (blankings q) (rowsOf W E)) (last-node counts long few each) in
+        let f : finished W (blankings (groundOf q)) (rowsOf W (treeAt trees (n + (n - 1) - 1))) ≡ finished W (blankings (groundOf q)) (rowsOf W (planTree (groundOf q))) =
+        ap (λ (E : Tree ℕ). finished W (blankings (groundOf q)) (rowsOf W E)) (last-node counts long few each) in
         let c : m ≡ length (reportRows r) = x .count ∙ ap length f ∙ report-count k well yes nine in
-        let v : flatRows n (finished W (blankings q) (rowsOf W (treeAt trees (n + (n - 1) - 1)))) ≡ flatMap (λ (row : Row). row) (reportRows r) =
+        let v : flatRows n (finished W (blankings (groundOf q)) (rowsOf W (treeAt trees (n + (n - 1) - 1)))) ≡ flatMap (λ (row : Row). row) (reportRows r) =
         ap (flatMap (take n)) f ∙ report-numbers k well yes nine in
         reported (answered (reportAnswer r)) (outcome-rows (eleven-yes counts long few each))
         (e ∙ rw (c, sets-all, steps-all counts long few each, tables-all)) (x .numbers ∙ rw v)
@@ -265,7 +265,7 @@ module _ {bs : Bytes} {s : StoredQuery} {cells : List ℤ} {r : Report} (read : 
     report-ran w w′ y =
         let same = query-kept k well yes admitted in
         ran-gives w w′ (y .counts) (y .joined) (y .long)
-        (subst (λ (m : ℕ). PlanRan W trees m (m - 1) (blankings q) (y .counts) w w′ (y .joined)) (k .table-count)
-        (subst (λ (z : Query). PlanRan W (planTrees z) (s .«table_count») (s .«table_count» - 1) (blankings z) (y .counts) w w′ (y .joined)) same (y .ran)))
+        (subst (λ (m : ℕ). PlanRan W trees m (m - 1) (blankings (groundOf q)) (y .counts) w w′ (y .joined)) (k .table-count)
+        (subst (λ (z : Query). PlanRan W (planTrees (groundOf z)) (s .«table_count») (s .«table_count» - 1) (blankings (groundOf z)) (y .counts) w w′ (y .joined)) same (y .ran)))
         (y .handed ∙ handed-by s (y .counts) (y .joined)
         ∙ ap₂ (λ (z : Query) (m : ℕ). handedBy z m (y .counts) (y .joined)) same (k .table-count))

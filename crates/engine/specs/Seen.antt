@@ -22,7 +22,7 @@ use Rattle.rows.specs.TreeLaws.{rows-valid}
 use Rattle.plan.specs.Database.{databaseOf, rowsIn, cellsOf, database}
 use Rattle.plan.specs.Report.{Query, Report, noCondition, queryOf, tableCount}
 use Rattle.plan.specs.Nodes.{joinTree}
-use Rattle.plan.specs.Plan.{planTree}
+use Rattle.plan.specs.Plan.{groundOf, planTree}
 use Rattle.plan.specs.Questions.{question9}
 use Rattle.plan.specs.QueryLaws.{Accepted, query-shaped}
 use Rattle.plan.specs.PlanLaws.{order-built, plan-shaped}
@@ -103,16 +103,16 @@ module _ {s : StoredQuery} {cells : List ℤ} {r : Report} (k : Stands s cells r
       query-tree = query-shaped q ok laws (database-width q (rowsIn r) (cellsOf r) small) (lawful-names q (rowsIn r) (cellsOf r) small)
 
       module _ (nine : T (question9 q)) where
-        pub plan-tree : Shaped laws (planTree q)
-        plan-tree = plan-shaped q laws (database-width q (rowsIn r) (cellsOf r) small) (lawful-names q (rowsIn r) (cellsOf r) small)
+        pub plan-tree : Shaped laws (planTree (groundOf q))
+        plan-tree = plan-shaped (groundOf q) laws (database-width q (rowsIn r) (cellsOf r) small) (lawful-names q (rowsIn r) (cellsOf r) small)
             (order-built q (ok .five) nine)
 
         -- demand 3 over work space: the pairs' rows after any list of blanking steps that document 01 allows, and the tree's rows, are
         -- the same numbers in the result buffer
-        pub buffers-agree : (L : List (Blanking ℕ)) → StepList q L
-            → flatMap (take (tableCount q)) (finished W L (rowsOf W (planTree q))) ≡ flatMap (take (tableCount q)) (ordered (rowsOf W (joinTree q)))
+        pub buffers-agree : (L : List (Blanking ℕ)) → StepList (groundOf q) L
+            → flatMap (take (tableCount q)) (finished W L (rowsOf W (planTree (groundOf q)))) ≡ flatMap (take (tableCount q)) (ordered (rowsOf W (joinTree q)))
         unfolding runRows planRows directRows finished
         buffers-agree L list =
-            numbers-seen (planTree q) plan-tree L
+            numbers-seen (planTree (groundOf q)) plan-tree L
             ∙ ap (flatMap (λ (row : Row). row)) (run-rows r ok small nine L list)
             ∙ sym (numbers-seen (joinTree q) query-tree [])

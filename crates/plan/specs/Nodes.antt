@@ -5,7 +5,7 @@ use Prim.Native.Nat.{ℕ, _-_}
 use lib.ListN.{length, getD}
 use Rattle.rows.specs.Lists.{range}
 use Rattle.rows.specs.Trees.{Tree, leaf, join}
-use Rattle.plan.specs.Report.{Join, Pair, Query, tableCount, tableNumbers, joinPairs, joinOrder}
+use Rattle.plan.specs.Report.{Join, Pair, Query, tableCount, tableNumbers, joinPairs}
 
 -- a list in which each of the given things makes one more element, from those before it
 unfoldable pub grown : {A X : Type 0} → (List A → X → A) → List A → List X → List A
@@ -29,10 +29,6 @@ nodesOf q ps = grown tablesOfPair (map (λ t. t ∷ []) (tableNumbers q)) ps
 -- the nodes of the J lines
 unfoldable pub joinNodes : Query → List (List ℕ)
 joinNodes q = nodesOf q (joinPairs q)
-
--- the nodes of the joining order
-unfoldable pub orderNodes : Query → List (List ℕ)
-orderNodes q = nodesOf q (joinOrder q)
 
 -- ---- the tree of each node
 

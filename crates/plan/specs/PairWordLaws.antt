@@ -18,20 +18,20 @@ use Rattle.cells.specs.declared.condition.Side.{Side}
 use Rattle.cells.specs.declared.condition.Side.the-variants.{Column, Constant}
 use Rattle.rows.specs.Lists.{all, keep, has}
 use Rattle.rows.specs.ListLaws.{_isIn_, there, or-left, or-right, has-intro, has-elim, keep-elim, keep-intro, all-elim, all-intro}
-use Rattle.plan.specs.Report.{Pair, Query, tableCount, conditionNumbers, conditionAt, namedBy, joinOrder}
-use Rattle.plan.specs.Nodes.{tablesAt, orderNodes}
-use Rattle.plan.specs.Sets.{Sets, setOf, blankingSets}
-use Rattle.plan.specs.Plan.{between, crosses, inEvery, usable, paired, fitsKind, usableAt, allIn, planned, plannedJoins}
+use Rattle.plan.specs.Report.{Pair, Query, tableCount, conditionNumbers, conditionAt, namedBy}
+use Rattle.plan.specs.Nodes.{tablesAt}
+use Rattle.plan.specs.Sets.{Sets, setOf}
+use Rattle.plan.specs.Plan.{Ground, between, crosses, inEvery, usable, paired, fitsKind, orderNodes, usableAt, allIn, pairFits, planned, plannedJoins}
 use Rattle.plan.specs.Bits.{hasBit}
 use Rattle.plan.specs.Steps.{bitsOf}
 use Rattle.plan.specs.BitLaws.{same-bits, has-bits, bit-elim, bit-intro, word-is, bits-none, some-bits}
 use Rattle.plan.specs.Words.{everyBit, everyUnless, wordTables, setWords, nodeWords, namedBits, conditionBits, joinBits}
 use Rattle.plan.specs.WordLaws.{or-elim, or-intro, and-elim, and-intro, meet-elim, meet-intro}
 use Rattle.plan.specs.JoinLaws.{condition-elim, condition-intro, named-within}
-use Rattle.plan.specs.SetWords.{set-word, node-word, number-elim}
-use Rattle.plan.specs.FoldWords.{nodes-below, nodes-most, blanking-proper}
+use Rattle.plan.specs.SetWords.{Proper, set-word, node-word, number-elim}
+use Rattle.plan.specs.FoldWords.{nodes-below, nodes-most}
 use Rattle.plan.specs.PairWords.{commonBits, betweenBits, crossesBits, crossingBits, withinBits, usableWord}
-use Rattle.plan.specs.PairWords.{usableBits, usableIn, fitsBits, pairFits, pairedBits, plannedBits}
+use Rattle.plan.specs.PairWords.{usableBits, usableIn, fitsBits, pairedBits, plannedBits}
 
 -- ---- the two kinds of conditions
 
@@ -143,37 +143,38 @@ usable-numbered : (q : Query) (S : Sets) (s l : List ℕ) (k : ℕ) → k isIn u
 unfolding usable
 usable-numbered q S s l k m = keep-elim (λ (k : ℕ). crosses (conditionAt q k) s l && (inEvery S s k || inEvery S l k)) (conditionNumbers q) m .0
 
-pub usable-in-numbers : (q : Query) (p : Pair) (k : ℕ) → k isIn usableAt q p → k isIn conditionNumbers q
+pub usable-in-numbers : (g : Ground) (p : Pair) (k : ℕ) → k isIn usableAt g p → k isIn conditionNumbers (g .query)
 unfolding usableAt
-usable-in-numbers q p k m = usable-numbered q (blankingSets q) (tablesAt (orderNodes q) (p .0)) (tablesAt (orderNodes q) (p .1)) k m
+usable-in-numbers g p k m = usable-numbered (g .query) (g .sets) (tablesAt (orderNodes g) (p .0)) (tablesAt (orderNodes g) (p .1)) k m
 
 -- ---- a pair of the order
 
-module _ (q : Query) (small : tableCount q ≤ 8) (numbers : length (q .conditions) ≤ 64) (few : length (joinOrder q) ≤ 7) where
-  sets-few : length (blankingSets q) ≤ 8
-  sets-few = omega (arith, blanking-proper q .each)
+module _ (g : Ground) (proper : Proper (g .query) (g .sets)) (small : tableCount (g .query) ≤ 8) (numbers : length (g .query .conditions) ≤ 64)
+    (few : length (g .order) ≤ 7) where
+  sets-few : length (g .sets) ≤ 8
+  sets-few = omega (arith, proper .each)
 
-  under-below : (i t : ℕ) → t isIn tablesAt (orderNodes q) i → t < 8
+  under-below : (i t : ℕ) → t isIn tablesAt (orderNodes g) i → t < 8
   unfolding orderNodes
-  under-below i t m = let b = nodes-below q (joinOrder q) i t m in omega arith
+  under-below i t m = let b = nodes-below (g .query) (g .order) i t m in omega arith
 
-  nodes-few : length (orderNodes q) ≤ 15
+  nodes-few : length (orderNodes g) ≤ 15
   unfolding orderNodes
-  nodes-few = nodes-most q (joinOrder q) small few
+  nodes-few = nodes-most (g .query) (g .order) small few
 
-  pub usable-in : (sets nodes : List ℕ) (p : Pair) → sets ≡ setWords (blankingSets q) → nodes ≡ nodeWords (orderNodes q) → usableBits q sets nodes p
-      ≡ usableIn q p
+  pub usable-in : (sets nodes : List ℕ) (p : Pair) → sets ≡ setWords (g .sets) → nodes ≡ nodeWords (orderNodes g) → usableBits (g .query) sets nodes p
+      ≡ usableIn g p
   unfolding usableBits usableIn usableAt allIn
   usable-in sets nodes p e f =
       rw (
         e,
         f,
-        node-word (orderNodes q) nodes-few (p .0),
-        node-word (orderNodes q) nodes-few (p .1),
-        usable-word q (blankingSets q) sets-few numbers (tablesAt (orderNodes q) (p .0)) (tablesAt (orderNodes q) (p .1)) (under-below (p .0))
+        node-word (orderNodes g) nodes-few (p .0),
+        node-word (orderNodes g) nodes-few (p .1),
+        usable-word (g .query) (g .sets) sets-few numbers (tablesAt (orderNodes g) (p .0)) (tablesAt (orderNodes g) (p .1)) (under-below (p .0))
             (under-below (p .1)),
-        within-word q (blankingSets q) sets-few numbers (tablesAt (orderNodes q) (p .0)) (under-below (p .0)) (usableAt q p) (usable-in-numbers q p),
-        within-word q (blankingSets q) sets-few numbers (tablesAt (orderNodes q) (p .1)) (under-below (p .1)) (usableAt q p) (usable-in-numbers q p),
+        within-word (g .query) (g .sets) sets-few numbers (tablesAt (orderNodes g) (p .0)) (under-below (p .0)) (usableAt g p) (usable-in-numbers g p),
+        within-word (g .query) (g .sets) sets-few numbers (tablesAt (orderNodes g) (p .1)) (under-below (p .1)) (usableAt g p) (usable-in-numbers g p),
       )
 
 -- ---- kinds
@@ -202,30 +203,33 @@ module _ (q : Query) where
   paired-word p (k ∷ C) false true n = rw (ne-eqb (bitsOf (k ∷ C)) 0 (some-bits k C), condition-is (k ∷ C) n, names-is (k ∷ C) n)
   paired-word p (k ∷ C) false false n = rw (ne-eqb (bitsOf (k ∷ C)) 0 (some-bits k C), no-conditions, no-names)
 
-  fits-kind : (C : List ℕ) (a b : Bool) → fitsBits (record { conditions = bitsOf C; left = a; right = b }) ≡ fitsKind C a b
-  unfolding fitsBits fitsKind
-  fits-kind [] a b = rw bits-none
-  fits-kind (k ∷ C) a b = rw (ne-eqb (bitsOf (k ∷ C)) 0 (some-bits k C))
+fits-kind : (C : List ℕ) (a b : Bool) → fitsBits (record { conditions = bitsOf C; left = a; right = b }) ≡ fitsKind C a b
+unfolding fitsBits fitsKind
+fits-kind [] a b = rw bits-none
+fits-kind (k ∷ C) a b = rw (ne-eqb (bitsOf (k ∷ C)) 0 (some-bits k C))
 
+module _ (g : Ground) where
   -- how a pair of the order is joined
-  pub planned-word : (p : Pair) → pairedBits q p (usableIn q p) ≡ joinBits q (planned q p)
+  pub planned-word : (p : Pair) → pairedBits (g .query) p (usableIn g p) ≡ joinBits (g .query) (planned g p)
   unfolding planned usableIn
-  planned-word p = paired-word p (usableAt q p) (allIn q p (p .0)) (allIn q p (p .1)) (usable-in-numbers q p)
+  planned-word p = paired-word (g .query) p (usableAt g p) (allIn g p (p .0)) (allIn g p (p .1)) (usable-in-numbers g p)
 
-  pub fits-word : (p : Pair) → fitsBits (usableIn q p) ≡ pairFits q p
+  pub fits-word : (p : Pair) → fitsBits (usableIn g p) ≡ pairFits g p
   unfolding usableIn pairFits
-  fits-word p = fits-kind (usableAt q p) (allIn q p (p .0)) (allIn q p (p .1))
+  fits-word p = fits-kind (usableAt g p) (allIn g p (p .0)) (allIn g p (p .1))
 
--- the same, of the sets and the nodes that the code holds
-pub planned-in : (q : Query) → tableCount q ≤ 8 → length (q .conditions) ≤ 64 → length (joinOrder q) ≤ 7 → (sets nodes : List ℕ) (p : Pair)
-    → sets ≡ setWords (blankingSets q) → nodes ≡ nodeWords (orderNodes q) → plannedBits q sets nodes p ≡ joinBits q (planned q p)
-unfolding plannedBits
-planned-in q small numbers few sets nodes p e f = ap (pairedBits q p) (usable-in q small numbers few sets nodes p e f) ∙ planned-word q p
+  pub planned-at : (i : ℕ) (p : Pair) → getD (g .order) i p ≡ p → getD (plannedJoins g) i (planned g p) ≡ planned g p
+  unfolding plannedJoins
+  planned-at i p e = List·getD-map (planned g) (g .order) i p ∙ ap (planned g) e
 
-pub planned-at : (q : Query) (i : ℕ) (p : Pair) → getD (joinOrder q) i p ≡ p → getD (plannedJoins q) i (planned q p) ≡ planned q p
-unfolding plannedJoins
-planned-at q i p e = List·getD-map (planned q) (joinOrder q) i p ∙ ap (planned q) e
+  pub planned-count : length (plannedJoins g) ≡ length (g .order)
+  unfolding plannedJoins
+  planned-count = length-map (g .order) (planned g)
 
-pub planned-count : (q : Query) → length (plannedJoins q) ≡ length (joinOrder q)
-unfolding plannedJoins
-planned-count q = length-map (joinOrder q) (planned q)
+  -- the same, of the sets and the nodes that the code holds
+  pub planned-in : Proper (g .query) (g .sets) → tableCount (g .query) ≤ 8 → length (g .query .conditions) ≤ 64 → length (g .order) ≤ 7
+      → (sets nodes : List ℕ) (p : Pair) → sets ≡ setWords (g .sets) → nodes ≡ nodeWords (orderNodes g)
+      → plannedBits (g .query) sets nodes p ≡ joinBits (g .query) (planned g p)
+  unfolding plannedBits
+  planned-in proper small numbers few sets nodes p e f =
+      ap (pairedBits (g .query) p) (usable-in g proper small numbers few sets nodes p e f) ∙ planned-word p

@@ -14,7 +14,7 @@ use Rattle.rows.specs.Lists.{keep}
 use Rattle.rows.specs.declared.kind.Kind.{Kind}
 use Rattle.rows.specs.declared.kind.Kind.the-variants.{Inner, Outer, Product}
 use Rattle.plan.specs.Report.{Pair, Query, conditionNumbers, conditionAt}
-use Rattle.plan.specs.Plan.{usableAt, allIn, fitsKind}
+use Rattle.plan.specs.Plan.{Ground, usableAt, allIn}
 use Rattle.plan.specs.Bits.{hasBit}
 use Rattle.plan.specs.Steps.{bitsOf}
 use Rattle.plan.specs.Words.{everyUnless, meetTo, namedBits}
@@ -52,12 +52,8 @@ usableBits q sets nodes p = record {
 }
 
 -- the same of a pair of the order
-unfoldable pub usableIn : Query → Pair → Usable
-usableIn q p = record { conditions = bitsOf (usableAt q p); left = allIn q p (p .0); right = allIn q p (p .1) }
-
--- question 10 of one pair
-unfoldable pub pairFits : Query → Pair → Bool
-pairFits q p = fitsKind (usableAt q p) (allIn q p (p .0)) (allIn q p (p .1))
+unfoldable pub usableIn : Ground → Pair → Usable
+usableIn g p = record { conditions = bitsOf (usableAt g p); left = allIn g p (p .0); right = allIn g p (p .1) }
 
 -- whether they fit one of the four kinds
 unfoldable pub fitsBits : Usable → Bool

@@ -13,7 +13,7 @@ use Rattle.rows.specs.Trees.{Tree}
 use Rattle.rows.specs.Nullification.{Blanking}
 use Rattle.rows.specs.declared.kind.Kind.the-variants.{Inner, Outer, Product}
 use Rattle.plan.specs.Report.{Join, Pair, Query, tableNumbers, conditionNumbers, conditionAt, joinOrder}
-use Rattle.plan.specs.Nodes.{tablesAt, orderNodes, treesOf, lastTree}
+use Rattle.plan.specs.Nodes.{tablesAt, nodesOf, treesOf, lastTree}
 use Rattle.plan.specs.Sets.{Sets, setOf, setsBy, emptySets, blankingSets}
 
 -- ---- pairs
@@ -50,14 +50,39 @@ unfoldable pub fitsKind : List ℕ → Bool → Bool → Bool
 fitsKind [] inS′ inL = true
 fitsKind (k ∷ C) inS′ inL = inS′ || inL
 
-module _ (q : Query) where
+-- ---- the plan
+
+-- what a plan is made of: the query, its sets, what a set becomes after the last pair, and the order
+pub record Ground : Type 0 where
+  pub query : Query
+  pub sets : Sets
+  pub close : List ℕ → List ℕ
+  pub order : List Pair
+
+-- what a query's plan is made of: its blanking sets and its joining order; after the last pair a set stays as it is
+abbrev pub groundOf : Query → Ground
+groundOf q = record { query = q; sets = blankingSets q; close = λ C. C; order = joinOrder q }
+
+-- whether a blanking step has a condition
+unfoldable pub asks : Blanking ℕ → Bool
+asks s = elim (s .1) [ [] ↦ false | k ∷ C ↦ true ]
+
+module _ (g : Ground) where
+  -- the nodes of the order
+  unfoldable pub orderNodes : List (List ℕ)
+  orderNodes = nodesOf (g .query) (g .order)
+
   -- the usable conditions of a pair of the order
   unfoldable pub usableAt : Pair → List ℕ
-  usableAt p = usable q (blankingSets q) (tablesAt (orderNodes q) (p .0)) (tablesAt (orderNodes q) (p .1))
+  usableAt p = usable (g .query) (g .sets) (tablesAt orderNodes (p .0)) (tablesAt orderNodes (p .1))
 
   -- whether all of a pair's usable conditions are in the sets of every table under a node
   unfoldable pub allIn : Pair → ℕ → Bool
-  allIn p i = all (inEvery (blankingSets q) (tablesAt (orderNodes q) i)) (usableAt p)
+  allIn p i = all (inEvery (g .sets) (tablesAt orderNodes i)) (usableAt p)
+
+  -- whether a pair's usable conditions fit one of the four kinds
+  unfoldable pub pairFits : Pair → Bool
+  pairFits p = fitsKind (usableAt p) (allIn p (p .0)) (allIn p (p .1))
 
   -- a pair of the order as the plan joins it
   unfoldable pub planned : Pair → Join
@@ -65,31 +90,30 @@ module _ (q : Query) where
 
   -- the pairs of the plan, as given
   unfoldable pub plannedJoins : List Join
-  plannedJoins = map planned (joinOrder q)
+  plannedJoins = map planned (g .order)
 
   -- the trees of the order's nodes
   unfoldable pub planTrees : List (Tree ℕ)
-  planTrees = treesOf q plannedJoins
+  planTrees = treesOf (g .query) plannedJoins
 
   -- the tree that the pairs make
   unfoldable pub planTree : Tree ℕ
   planTree = lastTree planTrees
 
   -- "The same set rule over the pairs gives the applied sets (a product adds nothing)"
+  unfoldable pub pairSets : Sets
+  pairSets = setsBy (g .query) orderNodes plannedJoins (emptySets (g .query))
+
   unfoldable pub appliedSets : Sets
-  appliedSets = setsBy q (orderNodes q) plannedJoins (emptySets q)
+  appliedSets = map (g .close) pairSets
 
   -- ---- blanking steps
 
   -- the missing conditions of a table: in its set, not in its applied set
   unfoldable pub missing : ℕ → List ℕ
-  missing t = keep (λ k. not (has (setOf appliedSets t) k)) (setOf (blankingSets q) t)
-
-  -- whether a step has a condition
-  unfoldable pub asks : Blanking ℕ → Bool
-  asks s = elim (s .1) [ [] ↦ false | k ∷ C ↦ true ]
+  missing t = keep (λ k. not (has (setOf appliedSets t) k)) (setOf (g .sets) t)
 
   -- the engine's own blanking steps: "each table whose set holds more than was applied gets one blanking step with the missing
   -- conditions", by table number
   unfoldable pub blankings : List (Blanking ℕ)
-  blankings = keep asks (map (λ t. (t, missing t)) (tableNumbers q))
+  blankings = keep asks (map (λ t. (t, missing t)) (tableNumbers (g .query)))

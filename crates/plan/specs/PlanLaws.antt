@@ -1,6 +1,6 @@
--- The plan's tree of an admitted order: its shape, that it fits the blanking sets, what is applied; and that question 10 turns down
--- no query. Assumes nothing.
-use mathlib.Core.Path.{_≡_, refl, sym, ap, _∙_, subst}
+-- The plan's tree of an admitted order: its shape, that it fits the blanking sets, what is applied; and that with closed
+-- sets the usable conditions of every pair fit a kind. Assumes nothing.
+use mathlib.Core.Path.{_≡_, refl, sym, ap, ap₂, _∙_, subst}
 use mathlib.Core.Logic.{_⊎_, inl, inr, ⊎-elim, _↔_, by-cases}
 use mathlib.Core.Bool.{Bool, true, false, not, _&&_, _||_}
 use mathlib.Core.List.{List, [], _∷_, _++_, map}
@@ -16,10 +16,10 @@ use Rattle.rows.specs.Shapes.{Lawful, BlanksLeft, BlanksRight, HasTable, Shaped
 use Rattle.rows.specs.Sets.{Takes, Applied, Closed, Fits}
 use Rattle.rows.specs.declared.kind.Kind.the-variants.{Inner, Outer, Product}
 use Rattle.plan.specs.Report.{Join, Pair, Query, tableCount, conditionNumbers, conditionAt, joinPairs, orderOr, joinOrder}
-use Rattle.plan.specs.Nodes.{tablesAt, treeAt, treeOf, nodesOf, treesOf, lastTree, orderNodes}
-use Rattle.plan.specs.Sets.{Sets, setOf, setsBy, emptySets, blankingSets}
-use Rattle.plan.specs.Plan.{crosses, inEvery, usable, paired, fitsKind, usableAt, allIn, planned, plannedJoins, planTrees, planTree, appliedSets}
-use Rattle.plan.specs.Questions.{wellBuilt, noneOrBuilt, question5, question9, question10}
+use Rattle.plan.specs.Nodes.{tablesAt, treeAt, treeOf, nodesOf, treesOf, lastTree}
+use Rattle.plan.specs.Sets.{Sets, setOf, setsBy, emptySets}
+use Rattle.plan.specs.Plan.{Ground, crosses, inEvery, usable, paired, fitsKind, orderNodes, usableAt, allIn, pairFits, planned, plannedJoins, planTrees, planTree, pairSets, appliedSets}
+use Rattle.plan.specs.Questions.{wellBuilt, noneOrBuilt, question5, question9, kindsFit}
 use Rattle.plan.specs.NodeLaws.{SidesAre, Matched, noPair, nextPair}
 use Rattle.plan.specs.SetLaws.{Numbered}
 use Rattle.plan.specs.BuiltLaws.{each-node, nodes-alike, tables-exist, of-last, last-has-every, sets-applied}
@@ -54,31 +54,40 @@ paired-sides p (k ∷ C) false true = inl (refl, refl)
 paired-sides p (k ∷ C) true false = inr (refl, refl)
 paired-sides p (k ∷ C) false false = inl (refl, refl)
 
-module _ (q : Query) where
+-- questions 5 and 9: the order is well built
+pub order-built : (q : Query) → T (question5 q) → T (question9 q) → T (wellBuilt (tableCount q) (joinOrder q))
+unfolding question5 question9 joinOrder orderOr noneOrBuilt
+order-built q five nine = either (q .pairs) nine
+  where
+    either : (ps : List Pair) → T (noneOrBuilt (tableCount q) ps) → T (wellBuilt (tableCount q) (orderOr ps (joinPairs q)))
+    either [] h = five
+    either (p ∷ ps) h = h
+
+module _ (g : Ground) where
   -- the join of a pair is tied, and its conditions are in the sets of all tables of the sides that it blanks
   pub record PairFits (j : Join) : Type 0 where
-    pub tied : Tied q (orderNodes q) j
-    pub left-sets : BlanksLeft (j .kind) → (t : ℕ) → t isIn tablesAt (orderNodes q) (j .left) → Includes (setOf (blankingSets q) t) (j .conditions)
-    pub right-sets : BlanksRight (j .kind) → (t : ℕ) → t isIn tablesAt (orderNodes q) (j .right) → Includes (setOf (blankingSets q) t) (j .conditions)
+    pub tied : Tied (g .query) (orderNodes g) j
+    pub left-sets : BlanksLeft (j .kind) → (t : ℕ) → t isIn tablesAt (orderNodes g) (j .left) → Includes (setOf (g .sets) t) (j .conditions)
+    pub right-sets : BlanksRight (j .kind) → (t : ℕ) → t isIn tablesAt (orderNodes g) (j .right) → Includes (setOf (g .sets) t) (j .conditions)
 
   module _ (p : Pair) where
     abbrev s : List ℕ
-    s = tablesAt (orderNodes q) (p .0)
+    s = tablesAt (orderNodes g) (p .0)
 
     abbrev l : List ℕ
-    l = tablesAt (orderNodes q) (p .1)
+    l = tablesAt (orderNodes g) (p .1)
 
     -- what is known of the conditions of a pair's join
     abbrev Usable : List ℕ → Type 0
-    Usable C = (c : ℕ) → c isIn C → c isIn conditionNumbers q × T (crosses (conditionAt q c) s l)
+    Usable C = (c : ℕ) → c isIn C → c isIn conditionNumbers (g .query) × T (crosses (conditionAt (g .query) c) s l)
 
     swapped : {A B : Type 0} → A ⊎ B → B ⊎ A
     swapped (inl a) = inr a
     swapped (inr b) = inl b
 
     pair-fits : (C : List ℕ) (a b : Bool) → Usable C
-        → (T a → (c : ℕ) → c isIn C → (t : ℕ) → t isIn s → c isIn setOf (blankingSets q) t)
-        → (T b → (c : ℕ) → c isIn C → (t : ℕ) → t isIn l → c isIn setOf (blankingSets q) t)
+        → (T a → (c : ℕ) → c isIn C → (t : ℕ) → t isIn s → c isIn setOf (g .sets) t)
+        → (T b → (c : ℕ) → c isIn C → (t : ℕ) → t isIn l → c isIn setOf (g .sets) t)
         → PairFits (paired (p .0) (p .1) C a b)
     unfolding paired
     pair-fits [] a b u x y = record {
@@ -89,8 +98,8 @@ module _ (q : Query) where
     pair-fits (k ∷ C) true true u x y = record {
       tied = record {
         numbered = λ c m. u c m .0;
-        inside = λ z c m t n. crosses-inside s l (conditionAt q c) (u c m .1) t n;
-        across = λ z. (k, here refl, crosses-across s l (conditionAt q k) (u k (here refl) .1));
+        inside = λ z c m t n. crosses-inside s l (conditionAt (g .query) c) (u c m .1) t n;
+        across = λ z. (k, here refl, crosses-across s l (conditionAt (g .query) k) (u k (here refl) .1));
       };
       left-sets = λ z t h c m. x tt c m t h;
       right-sets = λ z t h c m. y tt c m t h;
@@ -98,8 +107,8 @@ module _ (q : Query) where
     pair-fits (k ∷ C) false true u x y = record {
       tied = record {
         numbered = λ c m. u c m .0;
-        inside = λ z c m t n. crosses-inside s l (conditionAt q c) (u c m .1) t n;
-        across = λ z. (k, here refl, crosses-across s l (conditionAt q k) (u k (here refl) .1));
+        inside = λ z c m t n. crosses-inside s l (conditionAt (g .query) c) (u c m .1) t n;
+        across = λ z. (k, here refl, crosses-across s l (conditionAt (g .query) k) (u k (here refl) .1));
       };
       left-sets = λ z. absurd z;
       right-sets = λ z t h c m. y tt c m t h;
@@ -107,8 +116,8 @@ module _ (q : Query) where
     pair-fits (k ∷ C) true false u x y = record {
       tied = record {
         numbered = λ c m. u c m .0;
-        inside = λ z c m t n. swapped (crosses-inside s l (conditionAt q c) (u c m .1) t n);
-        across = λ z. let w = crosses-across s l (conditionAt q k) (u k (here refl) .1) in (k, here refl, (w .1, w .0));
+        inside = λ z c m t n. swapped (crosses-inside s l (conditionAt (g .query) c) (u c m .1) t n);
+        across = λ z. let w = crosses-across s l (conditionAt (g .query) k) (u k (here refl) .1) in (k, here refl, (w .1, w .0));
       };
       left-sets = λ z. absurd z;
       right-sets = λ z t h c m. x tt c m t h;
@@ -120,65 +129,65 @@ module _ (q : Query) where
     }
 
     -- all of a pair's usable conditions are in the sets of all tables under a node
-    all-in : (i : ℕ) → T (allIn q p i) → (c : ℕ) → c isIn usableAt q p → (t : ℕ) → t isIn tablesAt (orderNodes q) i → c isIn setOf (blankingSets q) t
+    all-in : (i : ℕ) → T (allIn g p i) → (c : ℕ) → c isIn usableAt g p → (t : ℕ) → t isIn tablesAt (orderNodes g) i → c isIn setOf (g .sets) t
     unfolding allIn
-    all-in i h c m t n = every-elim (blankingSets q) (tablesAt (orderNodes q) i) c
-        (all-elim (inEvery (blankingSets q) (tablesAt (orderNodes q) i)) (usableAt q p) h c m) t n
+    all-in i h c m t n = every-elim (g .sets) (tablesAt (orderNodes g) i) c
+        (all-elim (inEvery (g .sets) (tablesAt (orderNodes g) i)) (usableAt g p) h c m) t n
 
-    pub planned-fits : PairFits (planned q p)
+    pub planned-fits : PairFits (planned g p)
     unfolding planned usableAt
-    planned-fits = pair-fits (usableAt q p) (allIn q p (p .0)) (allIn q p (p .1))
-        (λ c m. let w = usable-elim q (blankingSets q) s l c m in (w .0, w .1)) (all-in (p .0)) (all-in (p .1))
+    planned-fits = pair-fits (usableAt g p) (allIn g p (p .0)) (allIn g p (p .1))
+        (λ c m. let w = usable-elim (g .query) (g .sets) s l c m in (w .0, w .1)) (all-in (p .0)) (all-in (p .1))
 
-  planned-matched : (ps : List Pair) → Matched PairFits ps (map (planned q) ps)
+  planned-matched : (ps : List Pair) → Matched PairFits ps (map (planned g) ps)
   unfolding planned
   planned-matched [] = noPair
-  planned-matched (p ∷ ps) = nextPair (paired-sides p (usableAt q p) (allIn q p (p .0)) (allIn q p (p .1))) (planned-fits p) (planned-matched ps)
+  planned-matched (p ∷ ps) = nextPair (paired-sides p (usableAt g p) (allIn g p (p .0)) (allIn g p (p .1))) (planned-fits p) (planned-matched ps)
 
-  pub plan-matched : Matched PairFits (joinOrder q) (plannedJoins q)
+  pub plan-matched : Matched PairFits (g .order) (plannedJoins g)
   unfolding plannedJoins
-  plan-matched = planned-matched (joinOrder q)
+  plan-matched = planned-matched (g .order)
 
-  -- questions 5 and 9: the order is well built
-  pub order-built : T (question5 q) → T (question9 q) → T (wellBuilt (tableCount q) (joinOrder q))
-  unfolding question5 question9 joinOrder orderOr noneOrBuilt
-  order-built five nine = either (q .pairs) nine
-    where
-      either : (ps : List Pair) → T (noneOrBuilt (tableCount q) ps) → T (wellBuilt (tableCount q) (orderOr ps (joinPairs q)))
-      either [] h = five
-      either (p ∷ ps) h = h
-
-  module _ {D : Database ℕ} (laws : Lawful D) (wide : tableCount q ≡ D .width)
-      (names : (k t : ℕ) → (laws .Names k t ↔ t isIn namesOf (conditionAt q k))) (built : T (wellBuilt (tableCount q) (joinOrder q))) where
-    pub plan-shaped : Shaped laws (planTree q)
+  module _ {D : Database ℕ} (laws : Lawful D) (wide : tableCount (g .query) ≡ D .width)
+      (names : (k t : ℕ) → (laws .Names k t ↔ t isIn namesOf (conditionAt (g .query) k))) (built : T (wellBuilt (tableCount (g .query)) (g .order))) where
+    pub plan-shaped : Shaped laws (planTree g)
     unfolding planTree planTrees orderNodes
-    plan-shaped = of-last q plan-matched built (Shaped laws) (nodes-shaped q laws wide names plan-matched built (λ j g. g .tied))
+    plan-shaped = of-last (g .query) plan-matched built (Shaped laws) (nodes-shaped (g .query) laws wide names plan-matched built (λ j f. f .tied))
 
     -- the conditions of each pair are in the blanking sets of the tables that it blanks
-    pub plan-fits : Fits (setOf (blankingSets q)) (planTree q)
+    pub plan-fits : Fits (setOf (g .sets)) (planTree g)
     unfolding planTree planTrees orderNodes treeOf
-    plan-fits = of-last q plan-matched built (Fits (setOf (blankingSets q)))
-        (each-node q plan-matched built (Fits (setOf (blankingSets q))) (λ i h. tt) (λ j g hl hr d a b. (
+    plan-fits = of-last (g .query) plan-matched built (Fits (setOf (g .sets)))
+        (each-node (g .query) plan-matched built (Fits (setOf (g .sets))) (λ i h. tt) (λ j f hl hr d a b. (
           a,
           b,
           λ t h. ⊎-elim
-              (λ (x, y). g .left-sets x t (nodes-alike q plan-matched built (j .left) hl t .1 y))
-              (λ (x, y). g .right-sets x t (nodes-alike q plan-matched built (j .right) hr t .1 y)) h,
+              (λ (x, y). f .left-sets x t (nodes-alike (g .query) plan-matched built (j .left) hl t .1 y))
+              (λ (x, y). f .right-sets x t (nodes-alike (g .query) plan-matched built (j .right) hr t .1 y)) h,
         )))
 
-    pub plan-tables : (t : ℕ) → (HasTable (planTree q) t ↔ (t < tableCount q))
+    pub plan-tables : (t : ℕ) → (HasTable (planTree g) t ↔ (t < tableCount (g .query)))
     unfolding planTree planTrees
     plan-tables t = (
-      of-last q plan-matched built (λ (E : Tree ℕ). (u : ℕ) → HasTable E u → u < tableCount q) (tables-exist q plan-matched built) t,
-      last-has-every q plan-matched built t,
+      of-last (g .query) plan-matched built (λ (E : Tree ℕ). (u : ℕ) → HasTable E u → u < tableCount (g .query)) (tables-exist (g .query) plan-matched built) t,
+      last-has-every (g .query) plan-matched built t,
     )
 
-    -- the applied sets are what the plan's tree applies to its tables
-    pub plan-applied : (t : ℕ) → t < tableCount q → (k : ℕ) → (k isIn setOf (appliedSets q) t ↔ Applied laws (planTree q) t k)
-    unfolding appliedSets planTree planTrees orderNodes
-    plan-applied = sets-applied q plan-matched built laws names (λ j g. g .tied .numbered)
+    -- the sets of the pairs are what the plan's tree applies to its tables
+    pub plan-applied : (t : ℕ) → t < tableCount (g .query) → (k : ℕ) → (k isIn setOf (pairSets g) t ↔ Applied laws (planTree g) t k)
+    unfolding pairSets planTree planTrees orderNodes
+    plan-applied = sets-applied (g .query) plan-matched built laws names (λ j f. f .tied .numbered)
 
-  -- ---- question 10
+  -- where a set stays as it is after the last pair
+  pub close-none : ((C : List ℕ) → g .close C ≡ C) → appliedSets g ≡ pairSets g
+  unfolding appliedSets
+  close-none h = each (pairSets g)
+    where
+      each : (S : Sets) → map (g .close) S ≡ S
+      each [] = refl
+      each (C ∷ S) = ap₂ _∷_ (h C) (each S)
+
+  -- ---- the kinds of the pairs
 
   not-all : {A : Type 0} (f : A → Bool) (l : List A) → ¬ T (all f l) → (a : A) × a isIn l × ¬ T (f a)
   unfolding all
@@ -189,33 +198,33 @@ module _ (q : Query) where
       find true e r = let (a, m, n) = r (λ k. h (rw e k)) in (a, there m, n)
       find false e r = (x, here refl, λ k. subst T e k)
 
-  module _ {D : Database ℕ} (laws : Lawful D) (names : (k t : ℕ) → (laws .Names k t ↔ t isIn namesOf (conditionAt q k)))
-      (closed : Closed laws (setOf (blankingSets q))) where
+  module _ {D : Database ℕ} (laws : Lawful D) (names : (k t : ℕ) → (laws .Names k t ↔ t isIn namesOf (conditionAt (g .query) k)))
+      (closed : Closed laws (setOf (g .sets))) where
     -- with closed sets the usable conditions of a pair are all in the one node's sets or all in the other's
-    one-way : (p : Pair) → T (allIn q p (p .0)) ⊎ T (allIn q p (p .1))
+    one-way : (p : Pair) → T (allIn g p (p .0)) ⊎ T (allIn g p (p .1))
     unfolding allIn usableAt
-    one-way p = by-cases (decT (allIn q p (p .0))) (λ h. inl h) (λ h. inr (other (not-all (inEvery (blankingSets q) (s p)) (usableAt q p) h)))
+    one-way p = by-cases (decT (allIn g p (p .0))) (λ h. inl h) (λ h. inr (other (not-all (inEvery (g .sets) (s p)) (usableAt g p) h)))
       where
-        other : (c : ℕ) × c isIn usableAt q p × ¬ T (inEvery (blankingSets q) (s p) c) → T (all (inEvery (blankingSets q) (l p)) (usableAt q p))
-        other (c, m, n) = all-intro (inEvery (blankingSets q) (l p)) (usableAt q p) (λ d k. ⊎-elim (λ x. absurd (n (drawn d k x))) (λ x. x)
-            (or-yes (inEvery (blankingSets q) (s p) d) (inEvery (blankingSets q) (l p) d) (usable-elim q (blankingSets q) (s p) (l p) d k .2)))
+        other : (c : ℕ) × c isIn usableAt g p × ¬ T (inEvery (g .sets) (s p) c) → T (all (inEvery (g .sets) (l p)) (usableAt g p))
+        other (c, m, n) = all-intro (inEvery (g .sets) (l p)) (usableAt g p) (λ d k. ⊎-elim (λ x. absurd (n (drawn d k x))) (λ x. x)
+            (or-yes (inEvery (g .sets) (s p) d) (inEvery (g .sets) (l p) d) (usable-elim (g .query) (g .sets) (s p) (l p) d k .2)))
           where
-            inL : T (inEvery (blankingSets q) (l p) c)
+            inL : T (inEvery (g .sets) (l p) c)
             inL = ⊎-elim (λ x. absurd (n x)) (λ x. x)
-                (or-yes (inEvery (blankingSets q) (s p) c) (inEvery (blankingSets q) (l p) c) (usable-elim q (blankingSets q) (s p) (l p) c m .2))
+                (or-yes (inEvery (g .sets) (s p) c) (inEvery (g .sets) (l p) c) (usable-elim (g .query) (g .sets) (s p) (l p) c m .2))
 
-            drawn : (d : ℕ) → d isIn usableAt q p → T (inEvery (blankingSets q) (s p) d) → T (inEvery (blankingSets q) (s p) c)
+            drawn : (d : ℕ) → d isIn usableAt g p → T (inEvery (g .sets) (s p) d) → T (inEvery (g .sets) (s p) c)
             drawn d k x =
-                let (a, (v, nv, lv)) = crosses-across (s p) (l p) (conditionAt q d) (usable-elim q (blankingSets q) (s p) (l p) d k .1) in
-                every-intro (blankingSets q) (s p) c (λ t h.
-                closed t v d (every-elim (blankingSets q) (s p) d x t h) (names d v .1 nv) c (every-elim (blankingSets q) (l p) c inL v lv))
+                let (a, (v, nv, lv)) = crosses-across (s p) (l p) (conditionAt (g .query) d) (usable-elim (g .query) (g .sets) (s p) (l p) d k .1) in
+                every-intro (g .sets) (s p) c (λ t h.
+                closed t v d (every-elim (g .sets) (s p) d x t h) (names d v .1 nv) c (every-elim (g .sets) (l p) c inL v lv))
 
-    -- question 10 is never answered "no"
-    pub kinds-fit : T (question10 q)
-    unfolding question10 fitsKind
-    kinds-fit = all-intro _ (joinOrder q) (λ p m. either p (usableAt q p) (one-way p))
+    -- the usable conditions of every pair fit a kind
+    pub kinds-fit : T (kindsFit g)
+    unfolding kindsFit pairFits fitsKind
+    kinds-fit = all-intro _ (g .order) (λ p m. either p (usableAt g p) (one-way p))
       where
-        either : (p : Pair) (C : List ℕ) → T (allIn q p (p .0)) ⊎ T (allIn q p (p .1)) → T (fitsKind C (allIn q p (p .0)) (allIn q p (p .1)))
+        either : (p : Pair) (C : List ℕ) → T (allIn g p (p .0)) ⊎ T (allIn g p (p .1)) → T (fitsKind C (allIn g p (p .0)) (allIn g p (p .1)))
         either p [] h = tt
-        either p (k ∷ C) (inl h) = or-left (allIn q p (p .0)) (allIn q p (p .1)) h
-        either p (k ∷ C) (inr h) = or-right (allIn q p (p .0)) (allIn q p (p .1)) h
+        either p (k ∷ C) (inl h) = or-left (allIn g p (p .0)) (allIn g p (p .1)) h
+        either p (k ∷ C) (inr h) = or-right (allIn g p (p .0)) (allIn g p (p .1)) h

@@ -10,10 +10,10 @@ use Rattle.cells.specs.declared.condition.Side.the-variants.{Column, Constant}
 use Rattle.rows.specs.Lists.{all, any, has}
 use Rattle.rows.specs.Trees.{Tree, leaf, join, tablesUnder}
 use Rattle.rows.specs.declared.kind.Kind.the-variants.{Inner, Outer, Product}
-use Rattle.plan.specs.Report.{Join, Pair, Query, tableCount, conditionAt, namedBy, joinPairs, joinOrder}
+use Rattle.plan.specs.Report.{Join, Pair, Query, tableCount, conditionAt, namedBy, joinPairs}
 use Rattle.plan.specs.Nodes.{tablesAt, treeAt, joinNodes, joinTrees}
 use Rattle.plan.specs.Sets.{blanksLeft, blanksRight}
-use Rattle.plan.specs.Plan.{crosses, usableAt, allIn, fitsKind}
+use Rattle.plan.specs.Plan.{Ground, groundOf, crosses, pairFits}
 
 -- ---- 5 and 9: how nodes are joined
 
@@ -105,6 +105,10 @@ question8 q =
 
 -- ---- 10: the kinds of the pairs
 
+-- whether the usable conditions of every pair fit one of the four kinds
+unfoldable pub kindsFit : Ground → Bool
+kindsFit g = all (pairFits g) (g .order)
+
 -- 10: "At each pair, do the usable conditions fit one of the four kinds?"
 unfoldable pub question10 : Query → Bool
-question10 q = all (λ (p : Pair). fitsKind (usableAt q p) (allIn q p (p .0)) (allIn q p (p .1))) (joinOrder q)
+question10 q = kindsFit (groundOf q)

@@ -18,53 +18,58 @@ use Rattle.rows.specs.Sound.{applied-true}
 use Rattle.rows.specs.Reordering.{Always, Reorders, reordered}
 use Rattle.plan.specs.Report.{Query, tableCount, conditionAt, joinOrder}
 use Rattle.plan.specs.Nodes.{joinTree}
-use Rattle.plan.specs.Sets.{setOf, blankingSets}
-use Rattle.plan.specs.Plan.{planTree, appliedSets, missing}
+use Rattle.plan.specs.Sets.{Sets, setOf, blankingSets}
+use Rattle.plan.specs.Plan.{Ground, groundOf, planTree, appliedSets, missing}
 use Rattle.plan.specs.Questions.{question9, question10, wellBuilt}
 use Rattle.plan.specs.QueryLaws.{Accepted, query-shaped, query-sets, query-closed, query-fits, query-tables}
-use Rattle.plan.specs.PlanLaws.{order-built, plan-shaped, plan-fits, plan-tables, plan-applied, kinds-fit}
+use Rattle.plan.specs.PlanLaws.{order-built, plan-shaped, plan-fits, plan-tables, plan-applied, close-none, kinds-fit}
 use Rattle.plan.specs.StepLists.{StepList}
 
 -- a missing condition is in the table's set and not in its applied set
-pub missing-elim : (q : Query) (t c : ℕ) → c isIn missing q t → c isIn setOf (blankingSets q) t
+pub missing-elim : (g : Ground) (t c : ℕ) → c isIn missing g t → c isIn setOf (g .sets) t
 unfolding missing
-missing-elim q t c m = keep-elim _ (setOf (blankingSets q) t) m .0
+missing-elim g t c m = keep-elim _ (setOf (g .sets) t) m .0
 
-pub missing-intro : (q : Query) (t c : ℕ) → c isIn setOf (blankingSets q) t → ¬ (c isIn setOf (appliedSets q) t) → c isIn missing q t
+pub missing-intro : (g : Ground) (t c : ℕ) → c isIn setOf (g .sets) t → ¬ (c isIn setOf (appliedSets g) t) → c isIn missing g t
 unfolding missing
-missing-intro q t c m n = keep-intro _ m
-    (not-T (has (setOf (appliedSets q) t) c) (λ h. n (has-elim (setOf (appliedSets q) t) c h)))
+missing-intro g t c m n = keep-intro _ m
+    (not-T (has (setOf (appliedSets g) t) c) (λ h. n (has-elim (setOf (appliedSets g) t) c h)))
 
 module _ (q : Query) (ok : Accepted q) {D : Database ℕ} (laws : Lawful D) (wide : tableCount q ≡ D .width)
     (names : (k t : ℕ) → (laws .Names k t ↔ t isIn namesOf (conditionAt q k))) where
+  abbrev g : Ground
+  g = groundOf q
+
   -- question 10 turns down no accepted query
   pub question10-yes : T (question10 q)
-  question10-yes = kinds-fit q laws names (query-closed q ok laws wide names)
+  unfolding question10
+  question10-yes = kinds-fit g laws names (query-closed q ok laws wide names)
 
-  module _ (nine : T (question9 q)) (L : List (Blanking ℕ)) (list : StepList q L) where
+  module _ (nine : T (question9 q)) (L : List (Blanking ℕ)) (list : StepList g L) where
     built : T (wellBuilt (tableCount q) (joinOrder q))
     built = order-built q (ok .five) nine
 
-    reorders : Reorders laws (setOf (blankingSets q)) (joinTree q) (planTree q) L
+    reorders : Reorders laws (setOf (blankingSets q)) (joinTree q) (planTree g) L
     reorders = record {
       closed = query-closed q ok laws wide names;
       query-shaped = query-shaped q ok laws wide names;
       query-fits = query-fits q ok laws wide names;
       query-always = λ t c h m x mx f.
           applied-true laws (joinTree q) (query-shaped q ok laws wide names) x mx t c (query-sets q ok laws wide names t c .0 m) f;
-      plan-shaped = plan-shaped q laws wide names built;
-      plan-fits = plan-fits q laws wide names built;
-      to-plan = λ t h. plan-tables q laws wide names built t .1 (query-tables q ok t .0 h);
-      to-query = λ t h. query-tables q ok t .1 (plan-tables q laws wide names built t .0 h);
-      steps-only = λ s m c n. missing-elim q (s .0) c (list .only s m c n);
+      plan-shaped = plan-shaped g laws wide names built;
+      plan-fits = plan-fits g laws wide names built;
+      to-plan = λ t h. plan-tables g laws wide names built t .1 (query-tables q ok t .0 h);
+      to-query = λ t h. query-tables q ok t .1 (plan-tables g laws wide names built t .0 h);
+      steps-only = λ s m c n. missing-elim g (s .0) c (list .only s m c n);
       steps-every = λ t c h m.
-          let b : t < tableCount q = plan-tables q laws wide names built t .0 h in
-          by-cases (decT (has (setOf (appliedSets q) t) c))
-          (λ k. inl (λ x mx f. applied-true laws (planTree q) (plan-shaped q laws wide names built) x mx t c
-          (plan-applied q laws wide names built t b c .0 (has-elim (setOf (appliedSets q) t) c k)) f))
-          (λ n. inr (list .every t b c (missing-intro q t c m (λ k. n (has-intro k)))));
+          let b : t < tableCount q = plan-tables g laws wide names built t .0 h in
+          by-cases (decT (has (setOf (appliedSets g) t) c))
+          (λ k. inl (λ x mx f. applied-true laws (planTree g) (plan-shaped g laws wide names built) x mx t c
+          (plan-applied g laws wide names built t b c .0
+          (subst (λ (S : Sets). c isIn setOf S t) (close-none g (λ C. refl)) (has-elim (setOf (appliedSets g) t) c k))) f))
+          (λ n. inr (list .every t b c (missing-intro g t c m (λ k. n (has-intro k)))));
     }
 
     -- the run of the plan with that list has the rows of the tree read directly
-    pub same-rows : planRows D (planTree q) L ≡ ordered (rowsOf D (joinTree q))
-    same-rows = reordered laws (setOf (blankingSets q)) (joinTree q) (planTree q) L reorders
+    pub same-rows : planRows D (planTree g) L ≡ ordered (rowsOf D (joinTree q))
+    same-rows = reordered laws (setOf (blankingSets q)) (joinTree q) (planTree g) L reorders

@@ -5,8 +5,8 @@ use Prim.Native.Nat.{ℕ, suc, _+_, _-_, _<_}
 use native.Mathlib.Omega.{arith}
 use lib.ListN.{length, getD, set, replicate, length-append, length-set, List·getD-append}
 use lib.Seq.{set-append-left, append-snoc}
-use Rattle.plan.specs.Report.{Join, Query, joinOrder}
-use Rattle.plan.specs.Plan.{plannedJoins, blankings}
+use Rattle.plan.specs.Report.{Join}
+use Rattle.plan.specs.Plan.{Ground, plannedJoins, blankings}
 use Rattle.plan.specs.Steps.{pairStep, blankingStep, bestMatchStep, zeroStep, stepsOf}
 use Rattle.plan.specs.PairWordLaws.{planned-count}
 use Rattle.plan.specs.StepWords.{listed, rowed, withRows}
@@ -45,34 +45,34 @@ zip-count (j ∷ js) [] zs h = omega arith
 zip-count (j ∷ js) (m ∷ ns) zs h = let k = zip-count js ns zs (omega arith) in omega arith
 
 -- the plan with the rows of the first pairs, 0 for the others
-unfoldable pub countedSteps : Query → List ℕ → StepList
-countedSteps q ns = listed (stepsOf q (ns ++ replicate (length (joinOrder q) - length ns) 0))
+unfoldable pub countedSteps : Ground → List ℕ → StepList
+countedSteps g ns = listed (stepsOf g (ns ++ replicate (length (g .order) - length ns) 0))
 
-pub no-rows : (q : Query) → listed (stepsOf q (replicate (length (joinOrder q)) 0)) ≡ countedSteps q []
+pub no-rows : (g : Ground) → listed (stepsOf g (replicate (length (g .order)) 0)) ≡ countedSteps g []
 unfolding countedSteps
-no-rows q = let e : length (joinOrder q) ≡ length (joinOrder q) - 0 = omega arith in ap (λ (k : ℕ). listed (stepsOf q (replicate k 0))) e
+no-rows g = let e : length (g .order) ≡ length (g .order) - 0 = omega arith in ap (λ (k : ℕ). listed (stepsOf g (replicate k 0))) e
 
-pub all-rows : (q : Query) (ns : List ℕ) → length ns ≡ length (joinOrder q) → countedSteps q ns ≡ listed (stepsOf q ns)
+pub all-rows : (g : Ground) (ns : List ℕ) → length ns ≡ length (g .order) → countedSteps g ns ≡ listed (stepsOf g ns)
 unfolding countedSteps
-all-rows q ns e =
-    let z : length (joinOrder q) - length ns ≡ 0 = omega arith in
-    rw z (ap (λ (l : List ℕ). listed (stepsOf q l)) (append-nil ns))
+all-rows g ns e =
+    let z : length (g .order) - length ns ≡ 0 = omega arith in
+    rw z (ap (λ (l : List ℕ). listed (stepsOf g l)) (append-nil ns))
 
-pub rows-next : (q : Query) (ns : List ℕ) (n : ℕ) → length ns < length (joinOrder q)
-    → withRows (countedSteps q ns) (length ns) n ≡ countedSteps q (ns ++ (n ∷ []))
+pub rows-next : (g : Ground) (ns : List ℕ) (n : ℕ) → length ns < length (g .order)
+    → withRows (countedSteps g ns) (length ns) n ≡ countedSteps g (ns ++ (n ∷ []))
 unfolding countedSteps stepsOf
-rows-next q ns n h =
-    let k : length (joinOrder q) - length ns ≡ suc (length (joinOrder q) - length (ns ++ (n ∷ []))) = omega (arith, length-append ns (n ∷ [])) in
-    let zs : List ℕ = replicate (length (joinOrder q) - length (ns ++ (n ∷ []))) 0 in
-    let l : length ns < length (plannedJoins q) = omega (arith, planned-count q) in
+rows-next g ns n h =
+    let k : length (g .order) - length ns ≡ suc (length (g .order) - length (ns ++ (n ∷ []))) = omega (arith, length-append ns (n ∷ [])) in
+    let zs : List ℕ = replicate (length (g .order) - length (ns ++ (n ∷ []))) 0 in
+    let l : length ns < length (plannedJoins g) = omega (arith, planned-count g) in
     rw (
       k,
-      append-snoc ns n (replicate (length (joinOrder q) - length (ns ++ (n ∷ []))) 0),
-      append-assoc (zipWith pairStep (plannedJoins q) (ns ++ 0 ∷ replicate (length (joinOrder q) - length (ns ++ (n ∷ []))) 0))
-          (map blankingStep (blankings q)) (bestMatchStep (blankings q)),
+      append-snoc ns n (replicate (length (g .order) - length (ns ++ (n ∷ []))) 0),
+      append-assoc (zipWith pairStep (plannedJoins g) (ns ++ 0 ∷ replicate (length (g .order) - length (ns ++ (n ∷ []))) 0))
+          (map blankingStep (blankings g)) (bestMatchStep (blankings g)),
     )
-    (rows-listed (zipWith pairStep (plannedJoins q) (ns ++ 0 ∷ zs)) (map blankingStep (blankings q) ++ bestMatchStep (blankings q)) (length ns) n
-    (zip-count (plannedJoins q) ns zs l)
-    ∙ ap (λ (z : List Step). listed (z ++ (map blankingStep (blankings q) ++ bestMatchStep (blankings q)))) (zip-rows (plannedJoins q) ns n zs l)
-    ∙ ap listed (sym (append-assoc (zipWith pairStep (plannedJoins q) (ns ++ n ∷ zs)) (map blankingStep (blankings q))
-    (bestMatchStep (blankings q)))))
+    (rows-listed (zipWith pairStep (plannedJoins g) (ns ++ 0 ∷ zs)) (map blankingStep (blankings g) ++ bestMatchStep (blankings g)) (length ns) n
+    (zip-count (plannedJoins g) ns zs l)
+    ∙ ap (λ (z : List Step). listed (z ++ (map blankingStep (blankings g) ++ bestMatchStep (blankings g)))) (zip-rows (plannedJoins g) ns n zs l)
+    ∙ ap listed (sym (append-assoc (zipWith pairStep (plannedJoins g) (ns ++ n ∷ zs)) (map blankingStep (blankings g))
+    (bestMatchStep (blankings g)))))

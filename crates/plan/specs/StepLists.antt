@@ -10,31 +10,31 @@ use mir.Facts.{and-yes, eqb-yes, ltb-yes}
 use Rattle.rows.specs.Lists.{range, all, any, keep, has}
 use Rattle.rows.specs.ListLaws.{_isIn_, here, there, all-elim, any-elim, has-elim, keep-elim, keep-intro, map-intro, map-elim, range-intro, range-elim}
 use Rattle.rows.specs.Nullification.{Blanking}
-use Rattle.plan.specs.Report.{Query, tableCount, tableNumbers}
-use Rattle.plan.specs.Plan.{missing, asks, blankings}
+use Rattle.plan.specs.Report.{tableCount, tableNumbers}
+use Rattle.plan.specs.Plan.{Ground, missing, asks, blankings}
 use native.Mathlib.Omega.{arith}
 
 -- "Each step takes one table and one or more conditions, all of them missing for it .., and each missing condition of each table is
 -- taken at least once. Sequence, splitting and repetition are free"
-pub record StepList (q : Query) (L : List (Blanking ℕ)) : Type 0 where
-  pub table : (s : Blanking ℕ) → s isIn L → s .0 < tableCount q
+pub record StepList (g : Ground) (L : List (Blanking ℕ)) : Type 0 where
+  pub table : (s : Blanking ℕ) → s isIn L → s .0 < tableCount (g .query)
   pub some : (s : Blanking ℕ) → s isIn L → s .1 ≢ []
-  pub only : (s : Blanking ℕ) → s isIn L → (c : ℕ) → c isIn s .1 → c isIn missing q (s .0)
-  pub every : (t : ℕ) → t < tableCount q → (c : ℕ) → c isIn missing q t → (s : Blanking ℕ) × s isIn L × (s .0 ≡ t) × c isIn s .1
+  pub only : (s : Blanking ℕ) → s isIn L → (c : ℕ) → c isIn s .1 → c isIn missing g (s .0)
+  pub every : (t : ℕ) → t < tableCount (g .query) → (c : ℕ) → c isIn missing g t → (s : Blanking ℕ) × s isIn L × (s .0 ≡ t) × c isIn s .1
 
 -- a step that asks something has a condition
-asks-some : (q : Query) (s : Blanking ℕ) → T (asks q s) → s .1 ≢ []
+asks-some : (s : Blanking ℕ) → T (asks s) → s .1 ≢ []
 unfolding asks
-asks-some q s = some (s .1)
+asks-some s = some (s .1)
   where
     some : (C : List ℕ) → T (elim C [ [] ↦ false | k ∷ D ↦ true ]) → C ≢ []
     some [] h e = h
     some (k ∷ C) h e = nil≢cons (sym e)
 
 -- "where nothing is missing, only the empty list is such a list"
-pub none-missing : (q : Query) (L : List (Blanking ℕ)) → StepList q L → ((t : ℕ) → t < tableCount q → missing q t ≡ []) → L ≡ []
-none-missing q [] x h = refl
-none-missing q (s ∷ L) x h = absurd (first (s .1) refl)
+pub none-missing : (g : Ground) (L : List (Blanking ℕ)) → StepList g L → ((t : ℕ) → t < tableCount (g .query) → missing g t ≡ []) → L ≡ []
+none-missing g [] x h = refl
+none-missing g (s ∷ L) x h = absurd (first (s .1) refl)
   where
     first : (C : List ℕ) → s .1 ≡ C → ⊥
     first [] e = x .some s (here refl) e
@@ -44,56 +44,56 @@ none-missing q (s ∷ L) x h = absurd (first (s .1) refl)
 -- ---- the same as a test that computes
 
 -- whether a list of steps is one that document 01 allows
-unfoldable pub isStepList : Query → List (Blanking ℕ) → Bool
-isStepList q L =
-    all (λ (s : Blanking ℕ). ltb (s .0) (tableCount q) && asks q s && all (has (missing q (s .0))) (s .1)) L
-    && all (λ t. all (λ c. any (λ (s : Blanking ℕ). eqb (s .0) t && has (s .1) c) L) (missing q t)) (tableNumbers q)
+unfoldable pub isStepList : Ground → List (Blanking ℕ) → Bool
+isStepList g L =
+    all (λ (s : Blanking ℕ). ltb (s .0) (tableCount (g .query)) && asks s && all (has (missing g (s .0))) (s .1)) L
+    && all (λ t. all (λ c. any (λ (s : Blanking ℕ). eqb (s .0) t && has (s .1) c) L) (missing g t)) (tableNumbers (g .query))
 
-pub step-list : (q : Query) (L : List (Blanking ℕ)) → T (isStepList q L) → StepList q L
+pub step-list : (g : Ground) (L : List (Blanking ℕ)) → T (isStepList g L) → StepList g L
 unfolding isStepList tableNumbers
-step-list q L h = record {
-  table = λ s m. ltb-yes (and-yes (ltb (s .0) (tableCount q)) (asks q s) (each s m .0) .0);
-  some = λ s m. asks-some q s (and-yes (ltb (s .0) (tableCount q)) (asks q s) (each s m .0) .1);
-  only = λ s m c n. has-elim (missing q (s .0)) c (all-elim (has (missing q (s .0))) (s .1) (each s m .1) c n);
+step-list g L h = record {
+  table = λ s m. ltb-yes (and-yes (ltb (s .0) (tableCount (g .query))) (asks s) (each s m .0) .0);
+  some = λ s m. asks-some s (and-yes (ltb (s .0) (tableCount (g .query))) (asks s) (each s m .0) .1);
+  only = λ s m c n. has-elim (missing g (s .0)) c (all-elim (has (missing g (s .0))) (s .1) (each s m .1) c n);
   every = λ t b c m.
       let (s, n, k) = any-elim (λ (s : Blanking ℕ). eqb (s .0) t && has (s .1) c) L
-      (all-elim (λ c. any (λ (s : Blanking ℕ). eqb (s .0) t && has (s .1) c) L) (missing q t)
-      (all-elim (λ t. all (λ c. any (λ (s : Blanking ℕ). eqb (s .0) t && has (s .1) c) L) (missing q t)) (range 0 (tableCount q))
-      (parts .1) t (range-intro 0 (tableCount q) t (omega arith) (omega arith))) c m) in
+      (all-elim (λ c. any (λ (s : Blanking ℕ). eqb (s .0) t && has (s .1) c) L) (missing g t)
+      (all-elim (λ t. all (λ c. any (λ (s : Blanking ℕ). eqb (s .0) t && has (s .1) c) L) (missing g t)) (range 0 (tableCount (g .query)))
+      (parts .1) t (range-intro 0 (tableCount (g .query)) t (omega arith) (omega arith))) c m) in
       let (e, d) = and-yes (eqb (s .0) t) (has (s .1) c) k in
       (s, n, eqb-yes e, has-elim (s .1) c d);
 }
   where
-    parts : T (all (λ (s : Blanking ℕ). ltb (s .0) (tableCount q) && asks q s && all (has (missing q (s .0))) (s .1)) L)
-        × T (all (λ t. all (λ c. any (λ (s : Blanking ℕ). eqb (s .0) t && has (s .1) c) L) (missing q t)) (range 0 (tableCount q)))
-    parts = and-yes (all (λ (s : Blanking ℕ). ltb (s .0) (tableCount q) && asks q s && all (has (missing q (s .0))) (s .1)) L)
-        (all (λ t. all (λ c. any (λ (s : Blanking ℕ). eqb (s .0) t && has (s .1) c) L) (missing q t)) (range 0 (tableCount q))) h
+    parts : T (all (λ (s : Blanking ℕ). ltb (s .0) (tableCount (g .query)) && asks s && all (has (missing g (s .0))) (s .1)) L)
+        × T (all (λ t. all (λ c. any (λ (s : Blanking ℕ). eqb (s .0) t && has (s .1) c) L) (missing g t)) (range 0 (tableCount (g .query))))
+    parts = and-yes (all (λ (s : Blanking ℕ). ltb (s .0) (tableCount (g .query)) && asks s && all (has (missing g (s .0))) (s .1)) L)
+        (all (λ t. all (λ c. any (λ (s : Blanking ℕ). eqb (s .0) t && has (s .1) c) L) (missing g t)) (range 0 (tableCount (g .query)))) h
 
-    each : (s : Blanking ℕ) → s isIn L → T (ltb (s .0) (tableCount q) && asks q s) × T (all (has (missing q (s .0))) (s .1))
-    each s m = and-yes (ltb (s .0) (tableCount q) && asks q s) (all (has (missing q (s .0))) (s .1))
-        (all-elim (λ (s : Blanking ℕ). ltb (s .0) (tableCount q) && asks q s && all (has (missing q (s .0))) (s .1)) L (parts .0) s m)
+    each : (s : Blanking ℕ) → s isIn L → T (ltb (s .0) (tableCount (g .query)) && asks s) × T (all (has (missing g (s .0))) (s .1))
+    each s m = and-yes (ltb (s .0) (tableCount (g .query)) && asks s) (all (has (missing g (s .0))) (s .1))
+        (all-elim (λ (s : Blanking ℕ). ltb (s .0) (tableCount (g .query)) && asks s && all (has (missing g (s .0))) (s .1)) L (parts .0) s m)
 
 -- ---- the engine's own list
 
-module _ (q : Query) where
-  own-elim : (s : Blanking ℕ) → s isIn blankings q → (s .0 < tableCount q) × (s .1 ≢ []) × (s .1 ≡ missing q (s .0))
+module _ (g : Ground) where
+  own-elim : (s : Blanking ℕ) → s isIn blankings g → (s .0 < tableCount (g .query)) × (s .1 ≢ []) × (s .1 ≡ missing g (s .0))
   unfolding blankings asks tableNumbers
   own-elim s m =
-      let (k, h) = keep-elim (asks q) (map (λ t. (t, missing q t)) (range 0 (tableCount q))) m in
-      let (t, n, e) = map-elim (λ (t : ℕ). (t, missing q t)) (range 0 (tableCount q)) k in
-      let b : t < tableCount q = (let r = range-elim 0 (tableCount q) n in omega arith) in
-      subst (λ (z : Blanking ℕ). T (asks q z) → (z .0 < tableCount q) × (z .1 ≢ []) × (z .1 ≡ missing q (z .0))) e
-      (λ w. (b, asks-some q (t, missing q t) w, refl)) h
+      let (k, h) = keep-elim asks (map (λ t. (t, missing g t)) (range 0 (tableCount (g .query)))) m in
+      let (t, n, e) = map-elim (λ (t : ℕ). (t, missing g t)) (range 0 (tableCount (g .query))) k in
+      let b : t < tableCount (g .query) = (let r = range-elim 0 (tableCount (g .query)) n in omega arith) in
+      subst (λ (z : Blanking ℕ). T (asks z) → (z .0 < tableCount (g .query)) × (z .1 ≢ []) × (z .1 ≡ missing g (z .0))) e
+      (λ w. (b, asks-some (t, missing g t) w, refl)) h
 
-  pub own-list : StepList q (blankings q)
+  pub own-list : StepList g (blankings g)
   unfolding blankings asks tableNumbers
   own-list = record {
     table = λ s m. own-elim s m .0;
     some = λ s m. own-elim s m .1;
     only = λ s m c n. subst (λ (l : List ℕ). c isIn l) (own-elim s m .2) n;
     every = λ t h c m. (
-      (t, missing q t),
-      keep-intro (asks q) (map-intro (λ (u : ℕ). (u, missing q u)) (range-intro 0 (tableCount q) t (omega arith) (omega arith))) (some-asked (missing q t) m),
+      (t, missing g t),
+      keep-intro asks (map-intro (λ (u : ℕ). (u, missing g u)) (range-intro 0 (tableCount (g .query)) t (omega arith) (omega arith))) (some-asked (missing g t) m),
       refl,
       m,
     );

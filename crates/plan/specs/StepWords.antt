@@ -6,8 +6,7 @@ use lib.Bits.{bitAnd, bitXor}
 use lib.Dec.{eqb}
 use lib.ListN.{length, getD, set, replicate}
 use Rattle.cells.specs.Choice.{if_then_else_}
-use Rattle.plan.specs.Report.{Query, joinOrder}
-use Rattle.plan.specs.Plan.{planned}
+use Rattle.plan.specs.Plan.{Ground, planned}
 use Rattle.plan.specs.Steps.{kindNumber, pairStep, zeroStep}
 use Rattle.plan.specs.declared.join.BitJoin.{BitJoin}
 use Rattle.plan.specs.declared.step.Step.{Step}
@@ -26,8 +25,8 @@ unfoldable pub pushed : StepList → Step → StepList
 pushed s x = record { steps = set (s .steps) (s .count) x; count = s .count + 1 }
 
 -- the steps of the pairs
-unfoldable pub pairSteps : Query → List Step
-pairSteps q = map (λ p. pairStep (planned q p) 0) (joinOrder q)
+unfoldable pub pairSteps : Ground → List Step
+pairSteps g = map (λ p. pairStep (planned g p) 0) (g .order)
 
 -- the conditions of a set that were not applied
 unfoldable pub missingBits : ℕ → ℕ → ℕ

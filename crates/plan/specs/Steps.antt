@@ -5,8 +5,8 @@ use lib.Bits.{bitOr}
 use Rattle.rows.specs.Nullification.{Blanking}
 use Rattle.rows.specs.declared.kind.Kind.{Kind}
 use Rattle.rows.specs.declared.kind.Kind.the-variants.{Inner, Outer, Product}
-use Rattle.plan.specs.Report.{Join, Query}
-use Rattle.plan.specs.Plan.{plannedJoins, blankings}
+use Rattle.plan.specs.Report.{Join}
+use Rattle.plan.specs.Plan.{Ground, plannedJoins, blankings}
 use Rattle.plan.specs.declared.step.Step.{Step}
 
 -- a list of condition numbers as bits: bit k is condition k
@@ -45,5 +45,5 @@ unfoldable pub zeroStep : Step
 zeroStep = record { kind = 0; first = 0; second = 0; rows = 0; conditions = 0 }
 
 -- the steps of a plan, given the rows of each pair's result: "the pairs as given, the blanking steps by table number, best match"
-unfoldable pub stepsOf : Query → List ℕ → List Step
-stepsOf q counts = zipWith pairStep (plannedJoins q) counts ++ map blankingStep (blankings q) ++ bestMatchStep (blankings q)
+unfoldable pub stepsOf : Ground → List ℕ → List Step
+stepsOf g counts = zipWith pairStep (plannedJoins g) counts ++ map blankingStep (blankings g) ++ bestMatchStep (blankings g)

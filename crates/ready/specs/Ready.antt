@@ -7,6 +7,7 @@ use lib.IntN.{ℤ}
 use lib.ListN.{length, replicate}
 use Rattle.cells.specs.Limits.{mostTables}
 use Rattle.plan.specs.Report.{Report, queryOf, joinOrder}
+use Rattle.plan.specs.Plan.{groundOf}
 use Rattle.plan.specs.Asking.{firstNo, orderQuestions}
 use Rattle.plan.specs.Sets.{blankingSets}
 use Rattle.plan.specs.Stands.{Stands}
@@ -26,7 +27,7 @@ unfoldable pub readyFor : StoredQuery → Prepared
 readyFor q = record {
   number = 0;
   sets = setWords (blankingSets (queryIn q));
-  plan = listed (stepsOf (queryIn q) (replicate (length (joinOrder (queryIn q))) 0));
+  plan = listed (stepsOf (groundOf (queryIn q)) (replicate (length (joinOrder (queryIn q))) 0));
   query = q;
 }
 

@@ -9,6 +9,7 @@ use lib.ListN.{length, replicate}
 use mir.Facts.{and-yes}
 use Rattle.cells.specs.Limits.{mostPairs}
 use Rattle.plan.specs.Report.{Report, queryOf, joinOrder}
+use Rattle.plan.specs.Plan.{groundOf}
 use Rattle.plan.specs.Asking.{firstNo, orderQuestions}
 use Rattle.plan.specs.AskingLaws.{asked-no, asked-yes}
 use Rattle.plan.specs.Counted.{Counted}
@@ -55,7 +56,7 @@ module _ (q : StoredQuery) {b : Bool} (e : b ≡ (leb (q .«pair_count») mostPa
 
 -- what is ready, part by part
 pub ready-parts : (q : StoredQuery) {sets : List ℕ} {s : StepList} → sets ≡ setWords (blankingSets (queryIn q))
-    → s ≡ listed (stepsOf (queryIn q) (replicate (length (joinOrder (queryIn q))) 0))
+    → s ≡ listed (stepsOf (groundOf (queryIn q)) (replicate (length (joinOrder (queryIn q))) 0))
     → record { number = 0; sets = sets; plan = s; query = q } ≡ readyFor q
 unfolding readyFor
 ready-parts q f g = rw (f, g)

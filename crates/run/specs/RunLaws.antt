@@ -10,6 +10,7 @@ use Rattle.rows.specs.Trees.{rowsOf}
 use Rattle.rows.specs.Due.{Reads, direct-reading}
 use Rattle.rows.specs.Nullification.{Blanking, planRows}
 use Rattle.plan.specs.Report.{Table, Join, Report, queryOf, tableCount, tableNumbers, conditionAt}
+use Rattle.plan.specs.Plan.{groundOf}
 use Rattle.plan.specs.Nodes.{treesOf, joinTrees, joinTree}
 use Rattle.plan.specs.Questions.{question9, question10}
 use Rattle.plan.specs.QueryLaws.{Accepted, query-shaped}
@@ -33,7 +34,7 @@ module _ (r : Report) (ok : Accepted (queryOf r)) (few : (t : ℕ) → rowsIn r 
       (database-width (queryOf r) (rowsIn r) (cellsOf r) few) (lawful-names (queryOf r) (rowsIn r) (cellsOf r) few)
 
   -- the run of the plan, with any list of blanking steps that document 01 allows, has the rows of the tree read directly
-  pub run-rows : T (question9 (queryOf r)) → (L : List (Blanking ℕ)) → StepList (queryOf r) L → runRows r L ≡ directRows r
+  pub run-rows : T (question9 (queryOf r)) → (L : List (Blanking ℕ)) → StepList (groundOf (queryOf r)) L → runRows r L ≡ directRows r
   unfolding runRows directRows database
   run-rows nine L list = same-rows (queryOf r) ok (lawful (queryOf r) (rowsIn r) (cellsOf r) few)
       (database-width (queryOf r) (rowsIn r) (cellsOf r) few) (lawful-names (queryOf r) (rowsIn r) (cellsOf r) few) nine L list
