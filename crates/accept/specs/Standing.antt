@@ -7,7 +7,7 @@ use mathlib.Core.Option.{Option, none, some}
 use Prim.Native.Nat.{ℕ, _+_, _<_, _≤_}
 use native.Mathlib.Nat.{zero-add}
 use native.Mathlib.Omega.{arith}
-use lib.Dec.{T, leb}
+use lib.Dec.{leb}
 use lib.IntN.{ℤ}
 use lib.ListN.{length, drop, length-append}
 use lib.Seq.{sets-eq}
@@ -15,9 +15,10 @@ use mir.Facts.{and-yes, leb-yes}
 use Rattle.cells.specs.BoolLaws.{is-true, clash}
 use Rattle.cells.specs.Limits.{mostTables, mostCells, mostConditions, cellRoom}
 use Rattle.rows.specs.Lists.{all}
+use Rattle.rows.specs.ListLaws.{here, there}
 use Rattle.plan.specs.Report.{Table, Report, queryOf}
 use Rattle.plan.specs.Asking.{firstNo, about, tableQuestions, queryQuestions, sharedQuestions}
-use Rattle.plan.specs.AskingLaws.{first-yes, no-then}
+use Rattle.plan.specs.AskingLaws.{all-yes, no-then}
 use Rattle.plan.specs.Database.{tableAt, rowsIn, cellsOf}
 use Rattle.plan.specs.Stands.{Stands}
 use Rattle.plan.specs.TableQuestions.{cellsInTables, tableFits, question3, question4}
@@ -43,18 +44,16 @@ module _ {bs : Bytes} {ls : List Line} (read : textLines bs ≡ some ls) (yes : 
   abbrev ts : List Table
   ts = (tablesOf ls) .1
 
-  three : T (question3 (reportOf ls)) × (firstNo ((4, λ (r : Report). question4 r) ∷ []) (reportOf ls) ≡ none)
-  unfolding tableQuestions
-  three = first-yes _ _ _ yes
-
   even : question4 (reportOf ls) ≡ true
-  even = is-true _ (first-yes _ _ _ (three .1) .0)
+  unfolding tableQuestions
+  even = is-true _ (all-yes tableQuestions (reportOf ls) yes (4, λ (r : Report). question4 r) (there (here refl)))
 
   within : (1 ≤ length ts) × (length ts ≤ mostTables) × (cellsInTables ts ≤ mostCells)
-  unfolding question3 reportOf
+  unfolding tableQuestions question3 reportOf
   within =
+      let three = all-yes tableQuestions (reportOf ls) yes (3, λ (r : Report). question3 r) (here refl) in
       let n : ℕ = length ts in
-      let (a, c) = and-yes (leb 1 n && leb n mostTables && all tableFits ts) (leb (cellsInTables ts) mostCells) (three .0) in
+      let (a, c) = and-yes (leb 1 n && leb n mostTables && all tableFits ts) (leb (cellsInTables ts) mostCells) three in
       let (b, _) = and-yes (leb 1 n && leb n mostTables) (all tableFits ts) a in
       let (x, y) = and-yes (leb 1 n) (leb n mostTables) b in
       (leb-yes x, leb-yes y, leb-yes c)

@@ -1,6 +1,6 @@
 -- A stored query that stands for a report which no question of both runs turns down: its counts, what the direct reading takes, and its
 -- tree; the whole query where its order is admitted too. Assumes nothing.
-use mathlib.Core.Path.{_≡_, sym, ap, ap₂, _∙_, subst}
+use mathlib.Core.Path.{_≡_, refl, sym, ap, ap₂, _∙_, subst}
 use mathlib.Core.Bool.{_&&_}
 use mathlib.Core.List.{List, map}
 use mathlib.Core.Option.{none}
@@ -13,10 +13,10 @@ use lib.Seq.{take-all}
 use mir.Facts.{and-yes}
 use Rattle.cells.specs.BoolLaws.{is-true}
 use Rattle.cells.specs.Limits.{mostJoins, mostPairs, mostWritten}
-use Rattle.rows.specs.ListLaws.{length-range}
+use Rattle.rows.specs.ListLaws.{here, length-range}
 use Rattle.rows.specs.Trees.{Tree, leaf}
 use Rattle.plan.specs.Asking.{firstNo, sharedQuestions, orderQuestions}
-use Rattle.plan.specs.AskingLaws.{first-yes}
+use Rattle.plan.specs.AskingLaws.{all-yes}
 use Rattle.plan.specs.Counted.{Counted}
 use Rattle.plan.specs.Nodes.{treeOf, treesOf, treeAt, lastTree, joinTrees, joinTree}
 use Rattle.plan.specs.NodeLaws.{grown-length}
@@ -99,7 +99,7 @@ module _ {s : StoredQuery} {cells : List ℤ} {r : Report} (k : Stands s cells r
   module _ (order : firstNo orderQuestions q ≡ none) where
     pub nine-yes : T (question9 q)
     unfolding orderQuestions
-    nine-yes = first-yes _ _ q order .0
+    nine-yes = all-yes orderQuestions q order (9, λ (z : Query). question9 z) (here refl)
 
     pub nine-kept : T (question9 (queryIn s))
     nine-kept = and-yes (leb (s .«pair_count») mostPairs) (question9 (queryIn s)) (subst T (sym (whole-nine k)) nine-yes) .1

@@ -47,25 +47,25 @@ use Rattle.engine.specs.declared.planned.Reply.{Reply}
 
 -- ---- a text that was made ready, laid into a list of n steps and run from it
 
+-- what is made ready has the query
+by-query : (q : StoredQuery) (o : Option ℕ) → readyBy q o .query ≡ q
+unfolding readyBy readyFor turnedAway
+by-query q none = refl
+by-query q (some n) = refl
+
+away-number : (p : Prepared) (q : StoredQuery) (n : ℕ) → p ≡ turnedAway q n → p .number ≡ n
+unfolding turnedAway
+away-number p q n z = ap (λ (y : Prepared). y .number) z
+
 module _ {bs : Bytes} {before after : List ℤ} where
   -- a number that turns the text down before the order is asked about
   early : {x : Accept.Answer} {n : ℕ} → Accepts bs before after x → x .outcome ≡ O.Refused n → refusal bs ≡ some n
   unfolding numberIn
   early h e = sym (h .answer) ∙ ap numberIn e
 
-  -- what is made ready has the query
-  by-query : (q : StoredQuery) (o : Option ℕ) → readyBy q o .query ≡ q
-  unfolding readyBy readyFor turnedAway
-  by-query q none = refl
-  by-query q (some n) = refl
-
   module _ {p : Prepared} where
-    away-number : {q : StoredQuery} {n : ℕ} → p ≡ turnedAway q n → p .number ≡ n
-    unfolding turnedAway
-    away-number z = ap (λ (y : Prepared). y .number) z
-
     pub prepared-within : Prepares bs before after p → Within p
-    prepared-within (away {a} {n} h e z) f = absurd (omega (arith, refusal-positive bs n (early h e), away-number z, f))
+    prepared-within (away {a} {n} h e z) f = absurd (omega (arith, refusal-positive bs n (early h e), away-number p (a .query) n z, f))
     prepared-within (passed {a} h e z) f =
         let x = h .kept e .stands in
         let same : p .query ≡ a .query = ap (λ (y : Prepared). y .query) (z _ _ x) ∙ by-query (a .query) _ in
@@ -77,23 +77,23 @@ module _ {bs : Bytes} {before after : List ℤ} where
       Ran x = Runs after (x .query) (laid (take (x .plan .count) (x .plan .steps)) n) (startRun (x .query)) w w′ r
 
       -- a text that is turned away
-      turned : {q : StoredQuery} {i : ℕ} → p ≡ turnedAway q i → 0 < i → Ends p r w′ v v′ h
+      turned : (q : StoredQuery) (i : ℕ) → p ≡ turnedAway q i → 0 < i → Ends p r w′ v v′ h
           → ((u : List ℕ) → h ≡ turnedDown i → Reported (reportOutcome bs) u u h) → Reported (reportOutcome bs) v v′ h
-      turned {q} {i} z i-positive end gives =
-          let (f, g) = end .refused (omega (arith, i-positive, away-number z)) in
-          subst (λ (u : List ℕ). Reported (reportOutcome bs) v u h) (sym g) (gives v (f ∙ ap turnedDown (away-number z)))
+      turned q i z b end gives =
+          let (f, g) = end .refused (omega (arith, b, away-number p q i z)) in
+          subst (λ (u : List ℕ). Reported (reportOutcome bs) v u h) (sym g) (gives v (f ∙ ap turnedDown (away-number p q i z)))
 
       prepared-run : Prepares bs before after p → Ran p → Ends p r w′ v v′ h → Reported (reportOutcome bs) v v′ h
       unfolding readyBy readyFor orderQuestions numbersOf all
       prepared-run (away {a} {i} x e z) run end =
-          turned z (refusal-positive bs i (early x e)) end (λ u f. report-early bs i u (early x e) f)
+          turned (a .query) i z (refusal-positive bs i (early x e)) end (λ u f. report-early bs i u (early x e) f)
       prepared-run (passed {a} x e z) run end = go (firstNo orderQuestions (queryOf (k .report))) refl (z _ _ (k .stands))
         where
           k : Kept bs before after (a .query)
           k = x .kept e
 
           go : (o : Option ℕ) → firstNo orderQuestions (queryOf (k .report)) ≡ o → p ≡ readyBy (a .query) o → Reported (reportOutcome bs) v v′ h
-          go (some i) f y = turned y (no-positive orderQuestions (queryOf (k .report)) i tt f) end
+          go (some i) f y = turned (a .query) i y (no-positive orderQuestions (queryOf (k .report)) i tt f) end
               (λ u g. report-order (k .read) (k .stands) (text-passed x e) i u f g)
           go none f y = report-ran (k .read) (k .stands) (text-passed x e) f v v′
               (subst (λ (cells : List ℤ). StepsRun (workspace cells (a .query .layout) (a .query .conditions)) (a .query) v v′ h) (k .run room)

@@ -42,15 +42,15 @@ module _ (q : StoredQuery) {b : Bool} (e : b ≡ (leb (q .«pair_count») mostPa
     pub nine-yes : T (question9 (queryIn q))
     nine-yes = and-yes (leb (q .«pair_count») mostPairs) (question9 (queryIn q)) (rw (sym e ∙ f) tt) .1
 
-    module _ (n : Counted q) {c : Bool} (g : c ≡ question10 (queryIn q)) {x : Prepared} where
+    module _ (n : Counted q) {c : Bool} (g : c ≡ question10 (queryIn q)) where
       ten : {cells : List ℤ} {r : Report} → Stands q cells r → {y : Bool} → c ≡ y → question10 (queryOf r) ≡ y
       ten k y = sym (ap question10 (whole-query k (n .joins) (n .conditions) pairs-room)) ∙ sym g ∙ y
 
-      pub ten-away : c ≡ false → x ≡ turnedAway q 10 → QueryPlanned q x
+      pub ten-away : {x : Prepared} → c ≡ false → x ≡ turnedAway q 10 → QueryPlanned q x
       unfolding readyBy orderQuestions
       ten-away y z cells r k = z ∙ ap (readyBy q) (sym (asked-yes _ _ _ (nine k f) ∙ asked-no _ _ _ (ten k y)))
 
-      pub all-planned : c ≡ true → x ≡ readyFor q → QueryPlanned q x
+      pub all-planned : {x : Prepared} → c ≡ true → x ≡ readyFor q → QueryPlanned q x
       unfolding readyBy orderQuestions firstNo
       all-planned y z cells r k = z ∙ ap (readyBy q) (sym (asked-yes _ _ _ (nine k f) ∙ asked-yes _ _ _ (ten k y)))
 
