@@ -1,7 +1,7 @@
 -- The code's answers to questions 2 to 8 are those on the report. Assumes nothing.
-use mathlib.Core.Path.{_≡_, sym, ap, _∙_}
+use mathlib.Core.Path.{_≡_, refl, sym, ap, _∙_}
 use mathlib.Core.Bool.{Bool, true, false, _&&_}
-use mathlib.Core.List.{List}
+use mathlib.Core.List.{List, []}
 use mathlib.Core.Option.{Option, none, some}
 use Prim.Native.Nat.{ℕ, _≤_}
 use native.Mathlib.Omega.{arith}
@@ -29,6 +29,11 @@ use Rattle.accept.specs.Standing.{read-refused, read-kept}
 use Rattle.accept.specs.declared.accept.Answer.{Answer}
 use Rattle.accept.specs.declared.accept.Outcome.{Outcome}
 use Rattle.accept.specs.declared.accept.Outcome.the-variants.{Refused, Accepted}
+
+-- no question is left
+pub none-left : {A : Type 0} (a : A) → firstNo [] a ≡ none
+unfolding firstNo
+none-left a = refl
 
 -- ---- the tests that the code makes, in order
 
@@ -76,9 +81,9 @@ module _ (s : StoredQuery) (t : s .«table_count» ≤ mostTables) {b : Bool} (e
                 sym (asked-yes _ _ _ (yes-5 k) ∙ asked-yes _ _ _ (yes-6 k) ∙ asked-yes _ _ _ (seven k j) ∙ asked-no _ _ _ (eight k x))
 
             pub accepted : z ≡ true → Asked s Accepted
-            unfolding numberIn queryQuestions firstNo
+            unfolding numberIn queryQuestions
             accepted x cells r k =
-                sym (asked-yes _ _ _ (yes-5 k) ∙ asked-yes _ _ _ (yes-6 k) ∙ asked-yes _ _ _ (seven k j) ∙ asked-yes _ _ _ (eight k x))
+                sym (asked-yes _ _ _ (yes-5 k) ∙ asked-yes _ _ _ (yes-6 k) ∙ asked-yes _ _ _ (seven k j) ∙ asked-yes _ _ _ (eight k x) ∙ none-left (queryOf r))
 
 -- ---- a call
 

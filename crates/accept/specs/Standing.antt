@@ -30,7 +30,7 @@ use Rattle.text.specs.ReadingLaws.{read-report}
 use Rattle.load.specs.Cells.{laid}
 use Rattle.load.specs.Flat.{flatRows, flatTables, text-cells}
 use Rattle.reader.specs.Query.{storedOf, done, stored-tables, stored-numbered, no-early-row}
-use Rattle.reader.specs.Outcome.{turnedDown, says, readOutcome, outcomeOf, linesOutcome, lines-placed, runAfter, run-accepted}
+use Rattle.reader.specs.Outcome.{TextOutcome, turnedDown, says, readOutcome, outcomeOf, linesOutcome, lines-placed, runAfter, run-accepted}
 use Rattle.reader.specs.Whole as W
 use Rattle.reader.specs.Ranges.{joins-room, join-range}
 use Rattle.reader.specs.Conditions.{condition-seen}
@@ -40,7 +40,7 @@ use Rattle.accept.specs.Accept.{refusal, Kept}
 
 -- ---- the text's tables, after questions 2 to 4
 
-module _ {bs : Bytes} {ls : List Line} (read : textLines bs ≡ some ls) (yes : firstNo tableQuestions (reportOf ls) ≡ none) where
+module _ (bs : Bytes) (ls : List Line) (read : textLines bs ≡ some ls) (yes : firstNo tableQuestions (reportOf ls) ≡ none) where
   abbrev ts : List Table
   ts = (tablesOf ls) .1
 
@@ -86,7 +86,8 @@ module _ {bs : Bytes} {ls : List Line} (read : textLines bs ≡ some ls) (yes : 
 
   says-kept : says (storedOf (done ls)) ≡ readOutcome bs
   unfolding readOutcome outcomeOf linesOutcome
-  says-kept = sym (ap outcomeOf read ∙ rw yes)
+  says-kept = sym (ap outcomeOf read
+      ∙ ap (λ (o : Option ℕ). elim o as (λ z. TextOutcome) [ some n ↦ turnedDown n | none ↦ says (storedOf (done ls)) ]) yes)
 
   tables-length : (xs : List Table) → length (flatTables xs) ≡ cellsInTables xs
   unfolding flatTables cellsInTables
@@ -101,14 +102,18 @@ module _ {bs : Bytes} {ls : List Line} (read : textLines bs ≡ some ls) (yes : 
       ∙ sets-eq (flatTables ts) before 0 (omega (arith, tables-length ts, within .2))
       ∙ rw (zero-add (length (flatTables ts)))
 
-  lines-kept : (before after : List ℤ) → after ≡ runAfter bs before → Kept bs before after (storedOf (done ls))
-  lines-kept before after e = record {
-    report = reportOf ls;
-    read = read-report bs ls read;
-    cells = flatTables ts ++ drop (length (flatTables ts)) before;
-    stands = stands (drop (length (flatTables ts)) before);
-    run = λ h. e ∙ run-left before h;
-  }
+  lines-kept : (before after : List ℤ) → after ≡ runAfter bs before
+      → (k : Kept bs before after (storedOf (done ls))) × (firstNo tableQuestions (k .report) ≡ none)
+  lines-kept before after e = (
+    record {
+      report = reportOf ls;
+      read = read-report bs ls read;
+      cells = flatTables ts ++ drop (length (flatTables ts)) before;
+      stands = stands (drop (length (flatTables ts)) before);
+      run = λ h. e ∙ run-left before h;
+    },
+    yes,
+  )
 
 -- ---- the reader's answers
 
@@ -140,7 +145,7 @@ read-kept bs s before after e h = go (textLines bs) refl e
         → says s ≡ (elim o [ some k ↦ turnedDown k | none ↦ says (storedOf (done ls)) ]) → Tied
     lines ls p none f e =
         let x : s ≡ storedOf (done ls) = cc in
-        subst (λ (z : StoredQuery). (k : Kept bs before after z) × (firstNo tableQuestions (k .report) ≡ none)) (sym x) (lines-kept p f before after h, f)
+        subst (λ (z : StoredQuery). (k : Kept bs before after z) × (firstNo tableQuestions (k .report) ≡ none)) (sym x) (lines-kept bs ls p f before after h)
     lines ls p (some k) f e = clash cc
 
     go : (o : Option (List Line)) → textLines bs ≡ o → says s ≡ outcomeOf o → Tied

@@ -95,7 +95,7 @@ module _ {bs : Bytes} {before after : List ℤ} {x : Accept.Answer} (h : Accepts
     pub text-read : {w w′ : List ℕ} {a : Answer} → cellRoom ≤ length before
         → TreeRead (workspace after (x .query .layout) (x .query .conditions)) (x .query) w w′ a → Gave (directOutcome bs) w w′ a
     text-read {w} {w′} {a} room t =
-        direct-passed (kept .read) (kept .stands) text-passed w w′ a
+        direct-passed bs (kept .read) (kept .stands) text-passed w w′ a
         (subst (λ (cells : List ℤ). TreeRead (workspace cells (x .query .layout) (x .query .conditions)) (x .query) w w′ a) (kept .run room) t)
 
 -- ---- a call

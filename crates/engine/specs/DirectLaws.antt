@@ -28,6 +28,7 @@ use Rattle.run.specs.LimitLaws.{read-answer}
 use Rattle.run.specs.Reading.{readOf, Handed}
 use Rattle.run.specs.Runs.{directRows, question11Direct}
 use Rattle.accept.specs.Accept.{refusal}
+use Rattle.accept.specs.AcceptLaws.{none-left}
 use Rattle.engine.specs.Answers.{Outcome, refused, answered, directQuestions, directOutcome}
 use Rattle.engine.specs.AnswerLaws.{read-well, outcome-answered, outcome-refused, refused-early}
 use Rattle.engine.specs.Calls.{written}
@@ -52,7 +53,7 @@ unfolding directOutcome directQuestions questionsOfDirect answerFor resultFor
 direct-early bs n w e = gave (refused n) (refused-early last directRows bs n e) refl refl
 
 -- a text that they do not turn down, of which this is kept
-module _ {bs : Bytes} {s : StoredQuery} {cells : List ℤ} {r : Report} (read : readReport bs ≡ some r) (k : Stands s cells r)
+module _ (bs : Bytes) {s : StoredQuery} {cells : List ℤ} {r : Report} (read : readReport bs ≡ some r) (k : Stands s cells r)
     (yes : firstNo sharedQuestions r ≡ none) where
   abbrev q : Query
   q = queryOf r
@@ -69,8 +70,8 @@ module _ {bs : Bytes} {s : StoredQuery} {cells : List ℤ} {r : Report} (read : 
   outcome-11 e = outcome-refused directQuestions directRows bs r read 11 (asked ∙ asked-no _ _ r e)
 
   outcome-rows : question11Direct r ≡ true → directOutcome bs ≡ answered (directRows r)
-  unfolding directOutcome firstNo
-  outcome-rows e = outcome-answered directQuestions directRows bs r read (asked ∙ asked-yes _ _ r e)
+  unfolding directOutcome
+  outcome-rows e = outcome-answered directQuestions directRows bs r read (asked ∙ asked-yes _ _ r e ∙ none-left r)
 
   -- work space, over the run that the text leaves
   abbrev W : Database ℕ

@@ -57,49 +57,47 @@ away-number : (p : Prepared) (q : StoredQuery) (n : ℕ) → p ≡ turnedAway q 
 unfolding turnedAway
 away-number p q n z = ap (λ (y : Prepared). y .number) z
 
-module _ {bs : Bytes} {before after : List ℤ} where
-  -- a number that turns the text down before the order is asked about
-  early : {x : Accept.Answer} {n : ℕ} → Accepts bs before after x → x .outcome ≡ O.Refused n → refusal bs ≡ some n
-  unfolding numberIn
-  early h e = sym (h .answer) ∙ ap numberIn e
+-- a number that turns the text down before the order is asked about
+early : {bs : Bytes} {before after : List ℤ} {x : Accept.Answer} {n : ℕ} → Accepts bs before after x → x .outcome ≡ O.Refused n → refusal bs ≡ some n
+unfolding numberIn
+early h e = sym (h .answer) ∙ ap numberIn e
 
-  module _ {p : Prepared} where
-    pub prepared-within : Prepares bs before after p → Within p
-    prepared-within (away {a} {n} h e z) f = absurd (omega (arith, refusal-positive bs n (early h e), away-number p (a .query) n z, f))
-    prepared-within (passed {a} h e z) f =
-        let x = h .kept e .stands in
-        let same : p .query ≡ a .query = ap (λ (y : Prepared). y .query) (z _ _ x) ∙ by-query (a .query) _ in
-        subst (λ (q : StoredQuery). (1 ≤ q .«table_count») × (q .«table_count» ≤ mostTables)) (sym same) (x .some, x .few)
+pub prepared-within : {bs : Bytes} {before after : List ℤ} {p : Prepared} → Prepares bs before after p → Within p
+prepared-within {bs} {p = p} (away {a} {n} h e z) f = absurd (omega (arith, refusal-positive bs n (early h e), away-number p (a .query) n z, f))
+prepared-within {p = p} (passed {a} h e z) f =
+    let x = h .kept e .stands in
+    let same : p .query ≡ a .query = ap (λ (y : Prepared). y .query) (z _ _ x) ∙ by-query (a .query) _ in
+    subst (λ (q : StoredQuery). (1 ≤ q .«table_count») × (q .«table_count» ≤ mostTables)) (sym same) (x .some, x .few)
 
-    module _ (room : cellRoom ≤ length before) (n : ℕ) (enough : stepListRoom ≤ n) (w w′ v v′ : List ℕ) (long : workRoom ≤ length w)
-        (wide : resultRoom ≤ length v) (r : Run) {h : Planned} where
-      abbrev Ran : Prepared → Type 0
-      Ran x = Runs after (x .query) (laid (take (x .plan .count) (x .plan .steps)) n) (startRun (x .query)) w w′ r
+module _ (bs : Bytes) (before after : List ℤ) (p : Prepared) (room : cellRoom ≤ length before) (n : ℕ) (enough : stepListRoom ≤ n)
+    (w w′ v v′ : List ℕ) (long : workRoom ≤ length w) (wide : resultRoom ≤ length v) (r : Run) (h : Planned) where
+  abbrev Ran : Prepared → Type 0
+  Ran x = Runs after (x .query) (laid (take (x .plan .count) (x .plan .steps)) n) (startRun (x .query)) w w′ r
 
-      -- a text that is turned away
-      turned : (q : StoredQuery) (i : ℕ) → p ≡ turnedAway q i → 0 < i → Ends p r w′ v v′ h
-          → ((u : List ℕ) → h ≡ turnedDown i → Reported (reportOutcome bs) u u h) → Reported (reportOutcome bs) v v′ h
-      turned q i z b end gives =
-          let (f, g) = end .refused (omega (arith, b, away-number p q i z)) in
-          subst (λ (u : List ℕ). Reported (reportOutcome bs) v u h) (sym g) (gives v (f ∙ ap turnedDown (away-number p q i z)))
+  -- a text that is turned away
+  turned : (q : StoredQuery) (i : ℕ) → p ≡ turnedAway q i → 0 < i → Ends p r w′ v v′ h
+      → ((u : List ℕ) → h ≡ turnedDown i → Reported (reportOutcome bs) u u h) → Reported (reportOutcome bs) v v′ h
+  turned q i z b end gives =
+      let (f, g) = end .refused (omega (arith, b, away-number p q i z)) in
+      subst (λ (u : List ℕ). Reported (reportOutcome bs) v u h) (sym g) (gives v (f ∙ ap turnedDown (away-number p q i z)))
 
-      prepared-run : Prepares bs before after p → Ran p → Ends p r w′ v v′ h → Reported (reportOutcome bs) v v′ h
-      unfolding readyBy readyFor orderQuestions numbersOf all
-      prepared-run (away {a} {i} x e z) run end =
-          turned (a .query) i z (refusal-positive bs i (early x e)) end (λ u f. report-early bs i u (early x e) f)
-      prepared-run (passed {a} x e z) run end = go (firstNo orderQuestions (queryOf (k .report))) refl (z _ _ (k .stands))
-        where
-          k : Kept bs before after (a .query)
-          k = x .kept e
+  prepared-run : Prepares bs before after p → Ran p → Ends p r w′ v v′ h → Reported (reportOutcome bs) v v′ h
+  unfolding readyBy readyFor orderQuestions numbersOf all
+  prepared-run (away {a} {i} x e z) run end =
+      turned (a .query) i z (refusal-positive bs i (early x e)) end (λ u f. report-early bs i u (early x e) f)
+  prepared-run (passed {a} x e z) run end = go (firstNo orderQuestions (queryOf (k .report))) refl (z _ _ (k .stands))
+    where
+      k : Kept bs before after (a .query)
+      k = x .kept e
 
-          go : (o : Option ℕ) → firstNo orderQuestions (queryOf (k .report)) ≡ o → p ≡ readyBy (a .query) o → Reported (reportOutcome bs) v v′ h
-          go (some i) f y = turned (a .query) i y (no-positive orderQuestions (queryOf (k .report)) i tt f) end
-              (λ u g. report-order (k .read) (k .stands) (text-passed x e) i u f g)
-          go none f y = report-ran (k .read) (k .stands) (text-passed x e) f v v′
-              (subst (λ (cells : List ℤ). StepsRun (workspace cells (a .query .layout) (a .query .conditions)) (a .query) v v′ h) (k .run room)
-              (ready-run (a .query) (text-readable x e) (five-kept (k .stands) (text-well x e) (text-passed x e))
-              (nine-kept (k .stands) (text-well x e) (text-passed x e) f) after n enough w w′ v v′ long wide r h
-              (subst Ran y run) (subst (λ (u : Prepared). Ends u r w′ v v′ h) y end)))
+      go : (o : Option ℕ) → firstNo orderQuestions (queryOf (k .report)) ≡ o → p ≡ readyBy (a .query) o → Reported (reportOutcome bs) v v′ h
+      go (some i) f y = turned (a .query) i y (no-positive orderQuestions (queryOf (k .report)) i tt f) end
+          (λ u g. report-order bs (k .read) (k .stands) (text-passed x e) i u f g)
+      go none f y = report-ran bs (k .read) (k .stands) (text-passed x e) f v v′
+          (subst (λ (cells : List ℤ). StepsRun (workspace cells (a .query .layout) (a .query .conditions)) (a .query) v v′ h) (k .run room)
+          (ready-run (a .query) (text-readable x e) (five-kept (k .stands) (text-well x e) (text-passed x e))
+          (nine-kept (k .stands) (text-well x e) (text-passed x e) f) after n enough w w′ v v′ long wide r h
+          (subst Ran y run) (subst (λ (u : Prepared). Ends u r w′ v v′ h) y end)))
 
 -- ---- a call
 
@@ -159,7 +157,7 @@ module _ (bs : Bytes) (c : List ℤ) (w v : List ℕ) (ys : List Step) where
     unfolding reportAfter cleared plannedFor resultAfter turnedDown replied listed
     report-done {c₁} {c′} {w₁} {w′} {v′} {p} {r} {x} {y} {l} ready run end e i f g =
         ap (λ (z : Reply). asCall z (lent c′ w′ v′) l) i
-        ∙ after (reportOutcome bs) refl (prepared-run (parts .0) (length ys) (parts .3) w w₁ v v′ (parts .1) (parts .2) r ready run (end .ends))
+        ∙ after (reportOutcome bs) refl (prepared-run bs c c₁ p (parts .0) (length ys) (parts .3) w w₁ v v′ (parts .1) (parts .2) r x ready run (end .ends))
         ∙ call-by true enough
       where
         cells : c′ ≡ replicate (length c) (pos 0)

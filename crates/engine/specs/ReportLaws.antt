@@ -46,6 +46,7 @@ use Rattle.run.specs.LimitLaws.{isIn-at}
 use Rattle.run.specs.PlanRuns.{PlanRan, ran, over}
 use Rattle.run.specs.Runs.{results, withinLimit, reportRows, pairCounts, reportSteps, question11}
 use Rattle.accept.specs.Accept.{refusal}
+use Rattle.accept.specs.AcceptLaws.{none-left}
 use Rattle.engine.specs.Answers.{Outcome, refused, answered, reportQuestions, outcomeBy, ReportAnswer, reportAnswer, reportOutcome}
 use Rattle.engine.specs.AnswerLaws.{read-well, outcome-answered, outcome-refused, refused-early}
 use Rattle.engine.specs.Calls.{noSets, written}
@@ -110,7 +111,7 @@ sets-words (a ∷ b ∷ c ∷ d ∷ e ∷ f ∷ g ∷ i ∷ []) h = refl
 sets-words (a ∷ b ∷ c ∷ d ∷ e ∷ f ∷ g ∷ i ∷ j ∷ S) h = absurd (omega arith)
 
 -- a text that they do not turn down, of which this is kept
-module _ {bs : Bytes} {s : StoredQuery} {cells : List ℤ} {r : Report} (read : readReport bs ≡ some r) (k : Stands s cells r)
+module _ (bs : Bytes) {s : StoredQuery} {cells : List ℤ} {r : Report} (read : readReport bs ≡ some r) (k : Stands s cells r)
     (yes : firstNo sharedQuestions r ≡ none) where
   abbrev q : Query
   q = queryOf r
@@ -140,8 +141,8 @@ module _ {bs : Bytes} {s : StoredQuery} {cells : List ℤ} {r : Report} (read : 
     outcome-11 e = outcome-refused reportQuestions reportAnswer bs r read 11 (asked-11 ∙ asked-no _ _ r e)
 
     outcome-rows : question11 r ≡ true → reportOutcome bs ≡ answered (reportAnswer r)
-    unfolding reportOutcome firstNo
-    outcome-rows e = outcome-answered reportQuestions reportAnswer bs r read (asked-11 ∙ asked-yes _ _ r e)
+    unfolding reportOutcome
+    outcome-rows e = outcome-answered reportQuestions reportAnswer bs r read (asked-11 ∙ asked-yes _ _ r e ∙ none-left r)
 
     -- work space, over the run that the text leaves
     abbrev W : Database ℕ

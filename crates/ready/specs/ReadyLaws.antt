@@ -1,7 +1,8 @@
 -- Laws of what is made ready of a query, by the tests that the code makes. Assumes nothing.
-use mathlib.Core.Path.{_≡_, sym, ap, _∙_}
+use mathlib.Core.Path.{_≡_, refl, sym, ap, _∙_}
 use mathlib.Core.Bool.{Bool, true, false, _&&_}
-use mathlib.Core.List.{List}
+use mathlib.Core.List.{List, []}
+use mathlib.Core.Option.{none}
 use Prim.Native.Nat.{ℕ, _≤_}
 use lib.Dec.{T, leb}
 use lib.IntN.{ℤ}
@@ -27,6 +28,11 @@ use Rattle.questions.specs.Whole.{whole-nine, whole-query}
 use Rattle.ready.specs.Ready.{turnedAway, readyFor, readyBy, QueryPlanned}
 use Rattle.ready.specs.declared.prepared.Prepared.{Prepared}
 
+-- no question is left
+none-left : {A : Type 0} (a : A) → firstNo [] a ≡ none
+unfolding firstNo
+none-left a = refl
+
 module _ (q : StoredQuery) {b : Bool} (e : b ≡ (leb (q .«pair_count») mostPairs && question9 (queryIn q))) where
   nine : {cells : List ℤ} {r : Report} → Stands q cells r → {y : Bool} → b ≡ y → question9 (queryOf r) ≡ y
   nine k y = sym (whole-nine k) ∙ sym e ∙ y
@@ -51,8 +57,8 @@ module _ (q : StoredQuery) {b : Bool} (e : b ≡ (leb (q .«pair_count») mostPa
       ten-away y z cells r k = z ∙ ap (readyBy q) (sym (asked-yes _ _ _ (nine k f) ∙ asked-no _ _ _ (ten k y)))
 
       pub all-planned : {x : Prepared} → c ≡ true → x ≡ readyFor q → QueryPlanned q x
-      unfolding readyBy orderQuestions firstNo
-      all-planned y z cells r k = z ∙ ap (readyBy q) (sym (asked-yes _ _ _ (nine k f) ∙ asked-yes _ _ _ (ten k y)))
+      unfolding readyBy orderQuestions
+      all-planned y z cells r k = z ∙ ap (readyBy q) (sym (asked-yes _ _ _ (nine k f) ∙ asked-yes _ _ _ (ten k y) ∙ none-left (queryOf r)))
 
 -- what is ready, part by part
 pub ready-parts : (q : StoredQuery) {sets : List ℕ} {s : StepList} → sets ≡ setWords (blankingSets (queryIn q))
