@@ -3,7 +3,7 @@
 use mathlib.Core.Path.{_≡_, refl, sym, ap, _∙_, subst}
 use mathlib.Core.Logic.{by-cases}
 use mathlib.Core.Bool.{_&&_}
-use mathlib.Core.List.{List, [], _∷_, _++_}
+use mathlib.Core.List.{List, [], _++_}
 use mathlib.Core.Option.{Option, none, some}
 use Prim.Native.Nat.{ℕ, _≤_, _<_}
 use native.Mathlib.Decide.{decLt}
@@ -17,12 +17,12 @@ use Rattle.cells.specs.Row.{blankRow}
 use Rattle.rows.specs.Lists.{all}
 use Rattle.rows.specs.ListLaws.{here, there, all-elim, getD-isIn}
 use Rattle.plan.specs.Asking.{Question, firstNo, about, numbersOf, tableQuestions, queryQuestions, sharedQuestions}
-use Rattle.plan.specs.AskingLaws.{append-yes, first-yes, all-yes, no-then, no-number, first-about}
+use Rattle.plan.specs.AskingLaws.{append-yes, all-yes, no-then, no-number, first-about}
 use Rattle.plan.specs.Database.{tableAt, rowsIn}
 use Rattle.plan.specs.QueryLaws.{WellRead, Accepted}
 use Rattle.plan.specs.Questions.{question5, question6, question7, question8}
 use Rattle.plan.specs.Report.{Table, Query, Report, queryOf}
-use Rattle.plan.specs.TableQuestions.{cellsInTables, tableFits, question3, question4}
+use Rattle.plan.specs.TableQuestions.{cellsInTables, tableFits, question3}
 use Rattle.text.specs.Bytes.{Bytes}
 use Rattle.text.specs.Lines.{Line}
 use Rattle.text.specs.Reading.{reportOf, textLines, readReport}

@@ -3,7 +3,7 @@ use mathlib.Core.Path.{_≡_, refl, sym, ap, _∙_, subst}
 use mathlib.Core.Bool.{Bool, true, false, not, _&&_}
 use mathlib.Core.List.{List, [], _∷_, _++_, map, zipWith}
 use mathlib.Core.Option.{Option, none, some}
-use Prim.Native.Nat.{ℕ, suc, _+_, _<_, _≤_}
+use Prim.Native.Nat.{ℕ, suc, _+_, _≤_}
 use native.Mathlib.Omega.{arith}
 use lib.Dec.{T, leb, eqb}
 use lib.ListN.{length, length-map, length-append}
@@ -12,11 +12,11 @@ use Rattle.cells.specs.Choice.{if_then_else_}
 use Rattle.cells.specs.Limits.{mostTables, mostRows, mostCells, mostSteps}
 use Rattle.cells.specs.Row.{Row, blankRow}
 use Rattle.rows.specs.Lists.{range, all, any, keep, distinct}
-use Rattle.rows.specs.ListLaws.{_isIn_, here, there, keep-fewer, length-range}
-use Rattle.rows.specs.Rows.{same, ordered, whollyBlank, dominated, bestMatch}
+use Rattle.rows.specs.ListLaws.{_isIn_, here, keep-fewer, length-range}
+use Rattle.rows.specs.Rows.{same, whollyBlank, dominated, bestMatch}
 use Rattle.rows.specs.RowLaws.{length-ordered}
-use Rattle.rows.specs.Shapes.{Lawful, Shaped}
-use Rattle.rows.specs.Trees.{Database, Tree, rowsOf}
+use Rattle.rows.specs.Shapes.{Lawful}
+use Rattle.rows.specs.Trees.{Database, rowsOf}
 use Rattle.rows.specs.TreeLaws.{rows-valid}
 use Rattle.rows.specs.Nullification.{Blanking, nullifyAll, finished, planRows}
 use Rattle.rows.specs.NullificationLaws.{nullifyRow, nullifyAll-map}
@@ -37,7 +37,7 @@ use Rattle.text.specs.Reading.{readReport}
 use Rattle.plan.specs.TableQuestions.{cellsInTables, tableFits, question3}
 use Rattle.plan.specs.Database.{databaseOf, rowsIn, cellsOf, database}
 use Rattle.run.specs.DatabaseLaws.{lawful, lawful-names, database-width}
-use Rattle.run.specs.LimitLaws.{within256, within-small, results-whole}
+use Rattle.run.specs.LimitLaws.{within-small, results-whole}
 use Rattle.run.specs.Padding.{finished-wide}
 use Rattle.run.specs.Runs.{results, withinLimit, directRows, question11Direct, runRows, reportRows, pairCounts, reportSteps, question11}
 use Rattle.engine.specs.Answers.{answered, directQuestions, reportQuestions, ReportAnswer, reportAnswer, reportOutcome, directOutcome}

@@ -1,7 +1,7 @@
 -- A call of the engine or of the direct reading, for any arguments: its answer, and all lent memory afterwards. Document 01,
 -- "Questions, in order". Assumes nothing.
 use mathlib.Core.Bool.{Bool, true, false, _&&_}
-use mathlib.Core.List.{List, [], _∷_, _++_, flatMap}
+use mathlib.Core.List.{List, [], _++_, flatMap}
 use Prim.Native.Nat.{ℕ, _-_}
 use lib.Dec.{leb}
 use lib.IntN.{ℤ, pos}

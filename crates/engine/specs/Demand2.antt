@@ -26,7 +26,6 @@ use Rattle.engine.specs.Answers.{Outcome, refused, answered, reportQuest
 use Rattle.engine.specs.AnswerLaws.{read-well, answered-report}
 use Rattle.engine.specs.Calls.{Lent, question1, question1Direct, written, noSets, ReportCall, reportAfter, reportCall, DirectCall, directAfter, directCall, cleared}
 use Rattle.engine.specs.Demand3Proof.{report-rows, report-reads}
-use Rattle.engine.specs.declared.answer.Answer.{Answer}
 use Rattle.engine.specs.declared.answer.Answer.the-variants.{Rows, Refused}
 
 -- the rows are those of the tree that the text says: each due row once, no other, in rising order

@@ -1,6 +1,6 @@
 -- The proof of demand 3 from the theorem on joining orders (crate rows), the laws of the query and the plan (crate plan) and those of
 -- the report's conditions (crate run). Assumes nothing.
-use mathlib.Core.Path.{_≡_, refl, sym, ap, _∙_, subst}
+use mathlib.Core.Path.{_≡_, refl, sym, _∙_}
 use mathlib.Core.Logic.{_⊎_, inl, inr}
 use mathlib.Core.List.{List, [], _∷_, _++_}
 use mathlib.Core.Option.{none, some}
@@ -27,7 +27,7 @@ use Rattle.text.specs.QueryLines.{queryLines, same-tables, same-joins, same-con
 use Rattle.plan.specs.Database.{rowsIn, database}
 use Rattle.run.specs.Runs.{directRows, runRows, reportRows, question11Direct, question11}
 use Rattle.run.specs.RunLaws.{direct-without-order, run-rows, kinds-fit, direct-reads}
-use Rattle.engine.specs.Answers.{Outcome, refused, answered, directQuestions, reportQuestions, ReportAnswer, reportAnswer, reportOutcome, directOutcome}
+use Rattle.engine.specs.Answers.{refused, answered, directQuestions, reportQuestions, ReportAnswer, reportAnswer, reportOutcome, directOutcome}
 use Rattle.engine.specs.AnswerLaws.{three-yes, report-accepted, few-rows, outcome-answered, outcome-refused}
 use Rattle.engine.specs.Demand3.{SameQuery, Demand3}
 

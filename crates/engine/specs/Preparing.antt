@@ -44,7 +44,7 @@ pub data Prepares (bs : Bytes) (before after : List ℤ) (x : Prepared) : Type 0
 
 -- the count of tables, where there is a run
 abbrev pub Within : Prepared → Type 0
-Within p = p .number ≡ 0 → (1 ≤ p .query .«table_count») × (p .query .«table_count» ≤ mostTables)
+Within p = p .number ≤ 0 → (1 ≤ p .query .«table_count») × (p .query .«table_count» ≤ mostTables)
 
 -- what is handed over for what was made ready, p, and the state at the end, r; w is the work buffer, v and v′ the result before and after
 pub record Ends (p : Prepared) (r : Run) (w v v′ : List ℕ) (x : Planned) : Type 0 where

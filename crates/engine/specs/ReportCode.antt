@@ -5,7 +5,7 @@ use mathlib.Core.List.{List, []}
 use mathlib.Core.Option.{Option, none, some}
 use Prim.Native.Nat.{ℕ, _-_, _≤_, _<_}
 use native.Mathlib.Omega.{arith}
-use lib.Dec.{T, leb}
+use lib.Dec.{leb}
 use lib.IntN.{ℤ, pos}
 use lib.ListN.{length, take, replicate}
 use lib.Seq.{take-at}
@@ -83,7 +83,7 @@ module _ (bs : Bytes) (before after : List ℤ) (p : Prepared) (room : cellRoom 
 
   prepared-run : Prepares bs before after p → Ran p → Ends p r w′ v v′ h → Reported (reportOutcome bs) v v′ h
   unfolding readyBy readyFor orderQuestions numbersOf all
-  prepared-run (away {a} {i} x e z) run end =
+  prepared-run (away {a} {n = i} x e z) run end =
       turned (a .query) i z (refusal-positive bs i (early x e)) end (λ u f. report-early bs i u (early x e) f)
   prepared-run (passed {a} x e z) run end = go (firstNo orderQuestions (queryOf (k .report))) refl (z _ _ (k .stands))
     where

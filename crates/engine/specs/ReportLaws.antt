@@ -54,7 +54,7 @@ use Rattle.engine.specs.Kept.{nine-yes, query-kept}
 use Rattle.engine.specs.Planning.{turnedDown, withCounts, handedOver, StepsRun, plannedFor, resultAfter, Reported}
 use Rattle.engine.specs.PlanningLaws.{rows-counted}
 use Rattle.engine.specs.Reached.{pair-count, node-count, report-count, report-numbers}
-use Rattle.engine.specs.declared.answer.Answer.the-variants.{Rows, Refused}
+use Rattle.engine.specs.declared.answer.Answer.the-variants.{Rows}
 use Rattle.engine.specs.declared.planned.Planned.{Planned}
 
 -- an outcome that is known

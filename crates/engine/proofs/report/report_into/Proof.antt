@@ -453,7 +453,7 @@ module _ {M : Type 1} (𝓤 : URA M) (H : Heap 𝓤) (A : Atoms 𝓤) (W : Given
     Three = (ℕ × GName) × ((ℕ × GName) × (ℕ × GName))
 
     abbrev to-over : Three → Over 𝓤 H A mem run .Ghost
-    to-over x = (((x .0 .0 ∷ [], (x .1 .0 .0 ∷ [], (x .1 .1 .0 ∷ [], tt))), (fullShare, (fullShare, (fullShare, tt))), tt, (xs (x .0 .1) L₁, (xc (x .1 .0 .1) c, (xw (x .1 .1 .1) w₀, (p .query, (p .run, tt))))), (ss ∷ [], (sc ∷ [], (sw ∷ [], (query-val (p .query) ∷ [], (run-val (startRun (p .query)) ∷ [], tt)))))), tt)
+    to-over x = (((x .0 .0 ∷ [], (x .1 .0 .0 ∷ [], (x .1 .1 .0 ∷ [], tt))), (fullShare, (fullShare, (fullShare, tt))), tt, (xs (x .0 .1) L₁, (xc (x .1 .0 .1) c, (xw (x .1 .1 .1) w₀, (p .query, (startRun (p .query), tt))))), (ss ∷ [], (sc ∷ [], (sw ∷ [], (query-val (p .query) ∷ [], (run-val (startRun (p .query)) ∷ [], tt)))))), tt)
 
     abbrev AllKept : Three → Item 𝓤
     AllKept x = Kept T.the-row κs qs γs bs os n 𝓤 H A (named 4) L₁ (x .0) ⊛ KeptShown i32 κc qc γc bc oc (length c₀) 𝓤 H A (named 1) c (x .1 .0) ⊛ Kept u16 κw qw γw bw ow (length w₀) 𝓤 H A (named 2) w₀ (x .1 .1)
