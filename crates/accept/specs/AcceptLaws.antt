@@ -1,17 +1,17 @@
 -- The code's answers to questions 2 to 8 are those on the report. Assumes nothing.
-use mathlib.Core.Path.{_≡_, refl, sym, ap, _∙_}
+use mathlib.Core.Path.{_≡_, sym, ap, _∙_}
 use mathlib.Core.Bool.{Bool, true, false, _&&_}
-use mathlib.Core.List.{List, []}
+use mathlib.Core.List.{List}
 use mathlib.Core.Option.{Option, none, some}
 use Prim.Native.Nat.{ℕ, _≤_}
 use native.Mathlib.Omega.{arith}
 use lib.Dec.{leb}
 use lib.IntN.{ℤ}
 use Rattle.cells.specs.BoolLaws.{clash}
-use Rattle.cells.specs.Limits.{mostTables, mostJoins, mostWritten, mostConditions}
+use Rattle.cells.specs.Limits.{mostTables, mostJoins, mostWritten}
 use Rattle.plan.specs.Report.{Report, queryOf}
 use Rattle.plan.specs.Asking.{firstNo, about, tableQuestions, queryQuestions, sharedQuestions}
-use Rattle.plan.specs.AskingLaws.{none-then, asked-no, asked-yes, first-about}
+use Rattle.plan.specs.AskingLaws.{none-left, none-then, asked-no, asked-yes, first-about}
 use Rattle.plan.specs.Counted.{Counted}
 use Rattle.plan.specs.Questions.{question5, question6, question7, question8}
 use Rattle.plan.specs.Stands.{Stands}
@@ -29,11 +29,6 @@ use Rattle.accept.specs.Standing.{read-refused, read-kept}
 use Rattle.accept.specs.declared.accept.Answer.{Answer}
 use Rattle.accept.specs.declared.accept.Outcome.{Outcome}
 use Rattle.accept.specs.declared.accept.Outcome.the-variants.{Refused, Accepted}
-
--- no question is left
-pub none-left : {A : Type 0} (a : A) → firstNo [] a ≡ none
-unfolding firstNo
-none-left a = refl
 
 -- ---- the tests that the code makes, in order
 

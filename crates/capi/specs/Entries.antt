@@ -5,14 +5,14 @@ use Prim.Native.Nat.{ℕ}
 use lib.Dec.{ltb}
 use lib.ListN.{length, replicate}
 use Rattle.cells.specs.Choice.{if_then_else_}
+use Rattle.cells.specs.Limits.{mostSteps}
 use Rattle.plan.specs.Steps.{zeroStep}
 use Rattle.text.specs.Bytes.{Bytes}
 use Rattle.engine.specs.Calls.{Lent, ReportCall, reportCall, DirectCall, directCall}
 use Rattle.engine.specs.Gave.{widthOf}
 use Rattle.engine.specs.declared.answer.Answer.{Answer}
-use Rattle.engine.specs.declared.answer.Answer.the-variants.{Rows, Refused}
 use Rattle.program.specs.PrintedCalls.{PrintedCall, printReportCall, printDirectCall}
-use Rattle.capi.specs.Numbers.{statusOf, rowsOf, answerNumbers, atFront, bytesOf}
+use Rattle.capi.specs.Numbers.{answerRoom, statusOf, rowsOf, answerNumbers, atFront, bytesOf}
 
 -- ---- numbers
 
@@ -34,13 +34,13 @@ entry least a numbers after before run =
 
 -- all numbers of a call of the report
 unfoldable pub reportNumbers : ReportCall → List ℕ
-reportNumbers c = answerNumbers (c .answer) (c .tables) (c .sets) (c .count) (c .steps)
+reportNumbers c = answerNumbers (c .answer) (c .facts) (c .count) (c .steps)
 
 -- the report; its step list is handed over by value, so that question 1 does not turn it down
 unfoldable pub reportEntry : Bytes → Lent → List ℕ → Entry
 reportEntry text m run =
-    let c : ReportCall = reportCall text m (replicate 16 zeroStep) in
-    entry 92 (c .answer) (reportNumbers c) (c .lent) m run
+    let c : ReportCall = reportCall text m (replicate mostSteps zeroStep) in
+    entry answerRoom (c .answer) (reportNumbers c) (c .lent) m run
 
 -- the direct reading: its rows and tables
 unfoldable pub directEntry : Bytes → Lent → List ℕ → Entry

@@ -1,11 +1,11 @@
 -- Laws of the calls of the static library, by the ways out of the code. They serve the code. Assumes nothing.
-use mathlib.Core.Path.{_≡_, refl, sym, ap, ap₂, _∙_}
+use mathlib.Core.Path.{_≡_, sym, ap, ap₂, _∙_}
 use mathlib.Core.List.{List, [], _∷_}
 use Prim.Native.Nat.{ℕ, _≤_, _<_}
 use native.Mathlib.Nat.{le-refl}
-use lib.Dec.{ltb}
 use lib.ListN.{length, replicate}
 use borrow.Author.Tests.{lt-ltb, le-ltb}
+use Rattle.cells.specs.Limits.{mostSteps}
 use Rattle.plan.specs.Steps.{zeroStep}
 use Rattle.text.specs.Bytes.{Bytes}
 use Rattle.print.specs.Output.{Written, written-as}
@@ -15,9 +15,9 @@ use Rattle.engine.specs.Gave.{widthOf}
 use Rattle.engine.specs.declared.answer.Answer.{Answer}
 use Rattle.engine.specs.declared.answer.Answer.the-variants.{Rows, Refused}
 use Rattle.program.specs.PrintedCalls.{PrintedCall}
-use Rattle.capi.specs.Numbers.{statusOf, rowsOf, atFront, bytesOf}
+use Rattle.capi.specs.Numbers.{answerRoom, statusOf, rowsOf, bytesOf}
 use Rattle.capi.specs.NumberLaws.{front-written}
-use Rattle.capi.specs.Entries.{noRoom, Entry, entry, reportNumbers, reportEntry, directEntry, PrintEntry, printEntry}
+use Rattle.capi.specs.Entries.{noRoom, entry, reportNumbers, reportEntry, directEntry, printEntry}
 
 -- ---- any call
 
@@ -38,12 +38,12 @@ module _ (least : ℕ) (a : Answer) (numbers : List ℕ) (after before : Lent) (
 -- ---- the report
 
 pub report-done : (text : Bytes) (m : Lent) (run : List ℕ) {c : ReportCall} {status r : ℕ} {run′ : List ℕ}
-    → c ≡ reportCall text m (replicate 16 zeroStep) → 92 ≤ length run → status ≡ statusOf (c .answer) → Written run 0 (reportNumbers c) 92 run′ r
+    → c ≡ reportCall text m (replicate mostSteps zeroStep) → answerRoom ≤ length run → status ≡ statusOf (c .answer) → Written run 0 (reportNumbers c) answerRoom run′ r
     → record { status = status; answer = run′; lent = c .lent } ≡ reportEntry text m run
 unfolding reportEntry
 report-done text m run {c} e h s p =
-    put-entry 92 (c .answer) (reportNumbers c) (c .lent) m run h s p
-    ∙ ap (λ (z : ReportCall). entry 92 (z .answer) (reportNumbers z) (z .lent) m run) e
+    put-entry answerRoom (c .answer) (reportNumbers c) (c .lent) m run h s p
+    ∙ ap (λ (z : ReportCall). entry answerRoom (z .answer) (reportNumbers z) (z .lent) m run) e
 
 -- ---- the direct reading
 

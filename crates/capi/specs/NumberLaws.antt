@@ -1,13 +1,14 @@
 -- Laws of the numbers of an answer, as the code puts them. They serve the code. Assumes nothing.
-use mathlib.Core.Path.{_≡_, refl, sym, ap, _∙_}
+use mathlib.Core.Path.{_≡_, refl, ap, _∙_}
 use mathlib.Core.List.{List, [], _∷_, _++_, flatMap}
-use Prim.Native.Nat.{ℕ, _+_, _*_, _≤_}
+use Prim.Native.Nat.{ℕ, _≤_}
 use native.Mathlib.Omega.{arith}
 use lib.ListN.{length, take, drop, getD}
 use lib.Seq.{take-length}
-use Rattle.print.specs.Output.{Written, written-as, written-then, written-whole}
+use Rattle.print.specs.Output.{Written, written-whole}
 use Rattle.print.specs.Loops.{upTo, upTo-flatMap}
 use Rattle.plan.specs.Steps.{zeroStep}
+use Rattle.plan.specs.declared.facts.Facts.{Facts}
 use Rattle.plan.specs.declared.step.Step.{Step}
 use Rattle.engine.specs.declared.answer.Answer.{Answer}
 use Rattle.capi.specs.Numbers.{statusOf, rowsOf, stepNumbers, answerNumbers, atFront}
@@ -37,7 +38,7 @@ front-written {w} {b = b} {r = r} h p =
     written-whole (omega (arith, p .next, p .within)) p ∙ ap (λ (k : ℕ). b ++ drop k w) n
 
 -- the parts of an answer, one behind the other
-pub answer-parts : (a : Answer) (tables count : ℕ) (sets : List ℕ) (steps : List Step) {rows status : ℕ} → rows ≡ rowsOf a → status ≡ statusOf a
-    → (rows ∷ tables ∷ count ∷ status ∷ []) ++ sets ++ flatMap stepNumbers steps ≡ answerNumbers a tables sets count steps
+pub answer-parts : (a : Answer) (f : Facts) (count : ℕ) (steps : List Step) {rows status : ℕ} → rows ≡ rowsOf a → status ≡ statusOf a
+    → (rows ∷ f .tables ∷ count ∷ status ∷ []) ++ f .sets ++ flatMap stepNumbers steps ≡ answerNumbers a f count steps
 unfolding answerNumbers
-answer-parts a tables count sets steps e f = rw (e, f)
+answer-parts a f count steps e g = rw (e, g)

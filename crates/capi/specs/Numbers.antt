@@ -1,10 +1,11 @@
 -- An answer as numbers: this project's own form for programs in other languages (include/rumbethola.h). Assumes nothing.
 use mathlib.Core.Path.{_≡_}
 use mathlib.Core.List.{List, [], _∷_, _++_, flatMap}
-use Prim.Native.Nat.{ℕ, _≤_}
+use Prim.Native.Nat.{ℕ, _+_, _*_, _≤_}
 use lib.ListN.{length, drop}
+use Rattle.cells.specs.Limits.{mostTables, mostSteps, printRoom}
+use Rattle.plan.specs.declared.facts.Facts.{Facts}
 use Rattle.plan.specs.declared.step.Step.{Step}
-use Rattle.print.specs.Room.{printRoom}
 use Rattle.print.specs.declared.whole.Printed.{Printed}
 use Rattle.print.specs.declared.whole.Printed.the-variants.{Bytes as Wrote, NoRoom, Unfit}
 use Rattle.engine.specs.declared.answer.Answer.{Answer}
@@ -20,13 +21,17 @@ unfoldable pub rowsOf : Answer → ℕ
 rowsOf (Rows n) = n
 rowsOf (Refused n) = 0
 
+-- how many numbers an answer of the report has: four counts, a set for each table, and five for each step
+abbrev pub answerRoom : ℕ
+answerRoom = 4 + mostTables + 5 * mostSteps
+
 -- a step: kind, first node, second node, rows, conditions
 unfoldable pub stepNumbers : Step → List ℕ
 stepNumbers s = s .kind ∷ s .first ∷ s .second ∷ s .rows ∷ s .conditions ∷ []
 
 -- an answer of the report: rows, tables, count of steps, status, the sets, the steps
-unfoldable pub answerNumbers : Answer → ℕ → List ℕ → ℕ → List Step → List ℕ
-answerNumbers a tables words count steps = (rowsOf a ∷ tables ∷ count ∷ statusOf a ∷ []) ++ words ++ flatMap stepNumbers steps
+unfoldable pub answerNumbers : Answer → Facts → ℕ → List Step → List ℕ
+answerNumbers a f count steps = (rowsOf a ∷ f .tables ∷ count ∷ statusOf a ∷ []) ++ f .sets ++ flatMap stepNumbers steps
 
 -- numbers at the front of a run; the rest of the run keeps its contents
 unfoldable pub atFront : List ℕ → List ℕ → List ℕ

@@ -1,27 +1,26 @@
 -- Every print fits the least output, so that the number of its bytes is below the number that says there is none. Assumes nothing.
-use mathlib.Core.Path.{_≡_, refl, sym, ap, _∙_, subst}
+use mathlib.Core.Path.{_≡_, refl, ap}
 use mathlib.Core.Bool.{Bool, true, false}
-use mathlib.Core.List.{List, [], _++_, flatMap}
+use mathlib.Core.List.{List, _++_}
 use Prim.Native.Nat.{ℕ, _≤_}
 use native.Mathlib.Omega.{arith}
 use lib.Dec.{ltb}
 use lib.ListN.{length, drop, replicate}
 use Rattle.cells.specs.Choice.{if_then_else_}
+use Rattle.cells.specs.Limits.{mostSteps, printRoom}
 use Rattle.cells.specs.Row.{Row}
-use Rattle.rows.specs.ListLaws.{_isIn_}
 use Rattle.plan.specs.Steps.{zeroStep}
 use Rattle.text.specs.Bytes.{Bytes}
-use Rattle.text.specs.Print.{printSets, printStep, printRow, printRefusal}
-use Rattle.print.specs.Room.{printRoom}
-use Rattle.print.specs.RoomLaws.{refusal-room, report-room}
-use Rattle.print.specs.Printed.{reportBytes}
+use Rattle.text.specs.Print.{printRefusal}
+use Rattle.print.specs.RoomLaws.{refusal-room, rows-room, report-room}
 use Rattle.print.specs.declared.whole.Printed.{Printed}
 use Rattle.print.specs.declared.whole.Printed.the-variants.{Bytes as Wrote, NoRoom}
 use Rattle.engine.specs.Answers.{Outcome, refused, answered, ReportAnswer, reportOutcome, directOutcome}
-use Rattle.engine.specs.Bounds.{Bounded, report-bounded, direct-bounded}
-use Rattle.engine.specs.Calls.{Lent, question1Direct, reportCall, directCall}
+use Rattle.engine.specs.Bounds.{report-bounded, direct-bounded}
+use Rattle.engine.specs.Calls.{Lent, factsOf, question1Direct, reportCall, directCall}
 use Rattle.engine.specs.Programs.{printReport, printDirect, report, direct}
 use Rattle.program.specs.PrintedCalls.{PrintedCall, printCall, printed, printReportCall, printDirectCall}
+use Rattle.program.specs.ReportPrint.{answer-printed}
 use Rattle.capi.specs.Numbers.{Short}
 
 refusal-short : (n : ℕ) → length (printRefusal n) ≤ printRoom
@@ -29,24 +28,26 @@ refusal-short n = omega (arith, refusal-room n)
 
 -- what the programs print
 report-short : (text : Bytes) → length (report text) ≤ printRoom
-unfolding report printReport reportBytes
+unfolding report printReport factsOf
 report-short text = go (reportOutcome text) refl
   where
     go : (o : Outcome ReportAnswer) → reportOutcome text ≡ o → length (printReport o) ≤ printRoom
     go (refused n) e = refusal-short n
     go (answered a) e =
         let (b, s) = report-bounded text a e in
-        report-room (a .sets) (a .steps) (a .rows) (b .eight) s (b .few) (λ row i. omega (arith, b .wide row i, b .eight))
+        let l = report-room (factsOf a) (a .steps) (a .rows) (b .eight) s (b .few) (λ row i. omega (arith, b .wide row i, b .eight)) in
+        let k = rw (answer-printed a) at l in
+        omega (arith, k)
 
 direct-short : (text : Bytes) → length (direct text) ≤ printRoom
-unfolding direct printDirect reportBytes printSets flatMap
+unfolding direct printDirect
 direct-short text = go (directOutcome text) refl
   where
     go : (o : Outcome (List Row)) → directOutcome text ≡ o → length (printDirect o) ≤ printRoom
     go (refused n) e = refusal-short n
     go (answered rows) e =
         let b = direct-bounded text rows e in
-        report-room [] [] rows (omega arith) (omega arith) (b .few) (λ row i. omega (arith, b .wide row i, b .eight))
+        omega (arith, rows-room rows (b .few) (λ row i. omega (arith, b .wide row i, b .eight)))
 
 -- a call's print
 printed-short : (m : Lent) (b : Bytes) → length b ≤ printRoom → length (printed m b) ≤ printRoom
@@ -71,7 +72,7 @@ call-short b after before out {a} {out′} {lent} h e n f = go (ltb (length out)
 module _ (text : Bytes) (m : Lent) (out : List ℕ) {a : Printed} {out′ : List ℕ} {lent : Lent} where
   pub report-call-short : record { answer = a; output = out′; lent = lent } ≡ printReportCall text m out → Short a
   unfolding printReportCall
-  report-call-short e = call-short (printed m (report text)) (reportCall text m (replicate 16 zeroStep) .lent) m out (printed-short m (report text) (report-short text)) e
+  report-call-short e = call-short (printed m (report text)) (reportCall text m (replicate mostSteps zeroStep) .lent) m out (printed-short m (report text) (report-short text)) e
 
   pub direct-call-short : record { answer = a; output = out′; lent = lent } ≡ printDirectCall text m out → Short a
   unfolding printDirectCall

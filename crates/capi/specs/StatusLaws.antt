@@ -1,13 +1,12 @@
 -- What a status tells: 0 is an answer's, the number of a question that the call is asked is that of a refusal, and 255 says that the run
 -- for the answer is too short. Assumes nothing.
-use mathlib.Core.Path.{_≡_, refl, sym, ap, _∙_}
+use mathlib.Core.Path.{_≡_, ap, _∙_}
 use mathlib.Core.Logic.{_⊎_, inl, inr}
 use mathlib.Core.List.{List, [], _∷_}
 use Prim.Native.Nat.{ℕ, _≤_}
-use lib.Dec.{ltb}
 use lib.ListN.{length, replicate}
 use borrow.Author.Tests.{le-ltb}
-use Rattle.cells.specs.Limits.{stepListRoom}
+use Rattle.cells.specs.Limits.{mostSteps}
 use Rattle.rows.specs.ListLaws.{_isIn_}
 use Rattle.plan.specs.Steps.{zeroStep}
 use Rattle.text.specs.Bytes.{Bytes}
@@ -16,7 +15,7 @@ use Rattle.engine.specs.CallLaws.{askedOfReport, askedOfDirect, Decided, report
 use Rattle.engine.specs.declared.answer.Answer.{Answer}
 use Rattle.engine.specs.Gave.{widthOf}
 use Rattle.engine.specs.declared.answer.Answer.the-variants.{Rows, Refused}
-use Rattle.capi.specs.Numbers.{statusOf, rowsOf}
+use Rattle.capi.specs.Numbers.{answerRoom, statusOf, rowsOf}
 use Rattle.capi.specs.Entries.{entry, reportNumbers, reportEntry, directEntry}
 
 -- a status tells which answer there is: rows, or one of these numbers
@@ -34,11 +33,11 @@ unfolding entry
 with-room least a numbers after before run h = rw (le-ltb (length run) least h)
 
 module _ (text : Bytes) (m : Lent) (run : List ℕ) where
-  pub report-told : 92 ≤ length run → Told askedOfReport (reportCall text m (replicate stepListRoom zeroStep) .answer) (reportEntry text m run .status)
+  pub report-told : answerRoom ≤ length run → Told askedOfReport (reportCall text m (replicate mostSteps zeroStep) .answer) (reportEntry text m run .status)
   unfolding reportEntry
   report-told h =
-      let c = reportCall text m (replicate stepListRoom zeroStep) in
-      told askedOfReport (c .answer) _ (with-room 92 (c .answer) (reportNumbers c) (c .lent) m run h) (report-decided text m (replicate stepListRoom zeroStep))
+      let c = reportCall text m (replicate mostSteps zeroStep) in
+      told askedOfReport (c .answer) _ (with-room answerRoom (c .answer) (reportNumbers c) (c .lent) m run h) (report-decided text m (replicate mostSteps zeroStep))
 
   pub direct-told : 2 ≤ length run → Told askedOfDirect (directCall text m .answer) (directEntry text m run .status)
   unfolding directEntry

@@ -1,14 +1,16 @@
 // An answer as a run of 64-bit numbers.
-use cells::condition::TABLES;
+use cells::limits::STEPS;
+use cells::limits::TABLES;
 use engine::answer::Answer;
+use plan::facts::Facts;
 use plan::step::Step;
-use plan::steps::STEPS;
 ghost use mathlib.Core.Path.{_≡_};
 ghost use mathlib.Core.List.{_∷_, [], flatMap};
-ghost use Prim.Native.Nat.{_+_, _≤_};
+ghost use Prim.Native.Nat.{_+_, _*_, _≤_};
 ghost use lib.ListN.{length};
+ghost use Rattle.cells.specs.Limits.{mostTables, mostSteps};
 ghost use Rattle.print.specs.Output.{Written};
-ghost use Rattle.capi.specs.Numbers.{statusOf, rowsOf, stepNumbers, answerNumbers};
+ghost use Rattle.capi.specs.Numbers.{answerRoom, statusOf, rowsOf, stepNumbers, answerNumbers};
 
 // 0 for an answer, or the number of the refusal.
 pub fn status_of(a: Answer) -> u8
@@ -52,8 +54,8 @@ fn put_counts(run: &mut [u64], at: usize, rows: u64, tables: u64, count: u64, st
 
 // The sets of the tables.
 fn put_sets(run: &mut [u64], at: usize, sets: [u64; TABLES]) -> usize
-    requires { ⌜ at + 8 ≤ length (now run) ⌝ }
-    ensures { λ r. ⌜ Written (now (run .entry)) at sets 8 (now (run .exit)) r ⌝ }
+    requires { ⌜ at + mostTables ≤ length (now run) ⌝ }
+    ensures { λ r. ⌜ Written (now (run .entry)) at sets mostTables (now (run .exit)) r ⌝ }
 {
     let mut next = at;
     let mut i: usize = 0;
@@ -79,8 +81,8 @@ fn put_step(run: &mut [u64], at: usize, s: Step) -> usize
 
 // The steps, one behind the other.
 fn put_steps(run: &mut [u64], at: usize, steps: [Step; STEPS]) -> usize
-    requires { ⌜ at + 80 ≤ length (now run) ⌝ }
-    ensures { λ r. ⌜ Written (now (run .entry)) at (flatMap stepNumbers steps) 80 (now (run .exit)) r ⌝ }
+    requires { ⌜ at + 5 * mostSteps ≤ length (now run) ⌝ }
+    ensures { λ r. ⌜ Written (now (run .entry)) at (flatMap stepNumbers steps) (5 * mostSteps) (now (run .exit)) r ⌝ }
 {
     let mut next = at;
     let mut i: usize = 0;
@@ -96,17 +98,18 @@ fn put_steps(run: &mut [u64], at: usize, steps: [Step; STEPS]) -> usize
 pub(crate) fn put_answer(
     run: &mut [u64],
     a: Answer,
-    tables: usize,
-    sets: [u64; TABLES],
+    facts: Facts,
     count: usize,
     steps: [Step; STEPS],
 ) -> usize
-    requires { ⌜ 92 ≤ length (now run) ⌝ }
-    ensures { λ r. ⌜ Written (now (run .entry)) 0 (answerNumbers a tables sets count steps) 92 (now (run .exit)) r ⌝ }
+    requires { ⌜ answerRoom ≤ length (now run) ⌝ }
+    ensures { λ r. ⌜ Written (now (run .entry)) 0 (answerNumbers a facts count steps) answerRoom (now (run .exit)) r ⌝ }
 {
     let status = status_of(a);
     let rows = rows_of(a);
-    let mut next = put_counts(run, 0, rows, tables as u64, count as u64, status as u64);
+    let tables = facts.tables as u64;
+    let sets = facts.sets;
+    let mut next = put_counts(run, 0, rows, tables, count as u64, status as u64);
     next = put_sets(run, next, sets);
     put_steps(run, next, steps)
 }

@@ -1,10 +1,12 @@
 // The report.
 use crate::numbers;
+use cells::limits::STEPS;
+use cells::limits::TABLES;
 ghost use mathlib.Core.Path.{_≡_};
 ghost use Rattle.capi.specs.Entries.{reportEntry};
 
-// How many numbers an answer of the report has: rows, tables, count of steps, status, eight sets, and sixteen steps of five numbers.
-pub const ANSWER: usize = 92;
+// How many numbers an answer of the report has: rows, tables, count of steps, status, the sets, and five for each step.
+pub const ANSWER: usize = 4 + TABLES + 5 * STEPS;
 
 // What is returned where the run for the answer is too short.
 pub const NO_ROOM: u8 = 255;
@@ -32,9 +34,9 @@ pub extern "C" fn rumbethola_report(
     }
     let p = engine::report::report(text, cells, work, result);
     let a = p.answer;
-    let sets = p.sets;
+    let facts = p.facts;
     let plan = p.plan;
     let steps = plan.steps;
-    numbers::put_answer(answer, a, p.tables, sets, plan.count, steps);
+    numbers::put_answer(answer, a, facts, plan.count, steps);
     numbers::status_of(a)
 }

@@ -13,12 +13,13 @@ use Rattle.rows.specs.ListLaws.{_isIn_, here, there}
 use Rattle.plan.specs.Asking.{Question, firstNo, numbersOf}
 use Rattle.plan.specs.AskingLaws.{no-number}
 use Rattle.plan.specs.Report.{Report}
+use Rattle.plan.specs.Facts.{noFacts}
 use Rattle.plan.specs.declared.step.Step.{Step}
 use Rattle.text.specs.Bytes.{Bytes}
 use Rattle.text.specs.Reading.{readReport}
 use Rattle.run.specs.Runs.{directRows}
 use Rattle.engine.specs.Answers.{Outcome, refused, answered, reportQuestions, directQuestions, outcomeFor, outcomeBy, ReportAnswer, reportAnswer, reportOutcome, directOutcome}
-use Rattle.engine.specs.Calls.{Lent, noSets, question1, question1Direct, ReportCall, reportAfter, reportCall, DirectCall, directAfter, directCall}
+use Rattle.engine.specs.Calls.{Lent, question1, question1Direct, ReportCall, reportAfter, reportCall, DirectCall, directAfter, directCall}
 use Rattle.engine.specs.declared.answer.Answer.{Answer}
 use Rattle.engine.specs.declared.answer.Answer.the-variants.{Rows, Refused}
 
@@ -61,7 +62,7 @@ module _ (text : Bytes) (m : Lent) where
 
       first : (b : Bool) → Decided askedOfReport ((elim b as (λ z. ReportCall) [
         | true ↦ reportAfter (reportOutcome text) m steps
-        | false ↦ record { answer = Refused 1; tables = 0; sets = noSets; count = 0; lent = m; steps = steps }
+        | false ↦ record { answer = Refused 1; facts = noFacts; count = 0; lent = m; steps = steps }
       ]) .answer)
       first true = after (reportOutcome text) (outcome-number reportQuestions reportAnswer (readReport text))
       first false = inr (1, refl, here refl)

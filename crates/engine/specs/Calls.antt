@@ -8,7 +8,9 @@ use lib.IntN.{ℤ, pos}
 use lib.ListN.{length, drop, replicate}
 use Rattle.cells.specs.Limits.{mostTables, cellRoom, workRoom, resultRoom, stepListRoom}
 use Rattle.cells.specs.Row.{Row}
+use Rattle.plan.specs.Facts.{noFacts}
 use Rattle.plan.specs.Steps.{zeroStep}
+use Rattle.plan.specs.declared.facts.Facts.{Facts}
 use Rattle.plan.specs.declared.step.Step.{Step}
 use Rattle.text.specs.Bytes.{Bytes}
 use Rattle.engine.specs.Answers.{Outcome, refused, answered, ReportAnswer, reportOutcome, directOutcome}
@@ -48,33 +50,30 @@ laidOut plan n = plan ++ replicate (n - length plan) zeroStep
 
 -- ---- the engine
 
--- the answer of a call, how many tables there are and each one's set as bits (a table that there is not: none), how many steps the
--- plan has, lent memory and the step list afterwards. After a refusal there is no table and no step
+-- the answer of a call, what stands beside it, how many steps the plan has, lent memory and the step list afterwards
 pub record ReportCall : Type 0 where
   pub answer : Answer
-  pub tables : ℕ
-  pub sets : List ℕ
+  pub facts : Facts
   pub count : ℕ
   pub lent : Lent
   pub steps : List Step
 
-unfoldable pub noSets : List ℕ
-noSets = replicate mostTables 0
+-- what stands beside an answer: how many tables there are, and each one's set as bits; of a table that there is not, none
+unfoldable pub factsOf : ReportAnswer → Facts
+factsOf a = record { tables = length (a .sets); sets = a .sets ++ replicate (mostTables - length (a .sets)) 0 }
 
--- a call that question 1 did not turn down
+-- a call that question 1 did not turn down; after a refusal there is no table and no step
 unfoldable pub reportAfter : Outcome ReportAnswer → Lent → List Step → ReportCall
 reportAfter (refused n) m steps = record {
   answer = Refused n;
-  tables = 0;
-  sets = noSets;
+  facts = noFacts;
   count = 0;
   lent = cleared m (m .result);
   steps = laidOut [] (length steps);
 }
 reportAfter (answered a) m steps = record {
   answer = Rows (length (a .rows));
-  tables = length (a .sets);
-  sets = a .sets ++ drop (length (a .sets)) noSets;
+  facts = factsOf a;
   count = length (a .steps);
   lent = cleared m (written (a .rows) (m .result));
   steps = laidOut (a .steps) (length steps);
@@ -85,7 +84,7 @@ unfoldable pub reportCall : Bytes → Lent → List Step → ReportCall
 reportCall text m steps =
     elim (question1 m steps) [
       | true ↦ reportAfter (reportOutcome text) m steps
-      | false ↦ record { answer = Refused 1; tables = 0; sets = noSets; count = 0; lent = m; steps = steps }
+      | false ↦ record { answer = Refused 1; facts = noFacts; count = 0; lent = m; steps = steps }
     ]
 
 -- ---- the direct reading

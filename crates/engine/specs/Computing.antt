@@ -19,7 +19,8 @@ use Rattle.text.specs.Numbers.{digit, decimal, valueOf, natural, small, positiv
 use Rattle.text.specs.Lines.{kindOf, field, oneOf, end, both, readAll, word, numberField, kindField, operatorField, cellFields, formT, formD, formJ, formC, formK, formP, firstOf, lineOf, linesOf}
 use Rattle.text.specs.Reading.{partOf, mayFollow, placed, tablesOf, joinsOf, conditionsOf, pairsOf, reportOf, ifPlaced, textLines, readReport}
 use Rattle.plan.specs.TableQuestions.{cellsInRows, cellsInTables, tableFits, question3, question4}
-use Rattle.text.specs.Print.{digitsOf, printNumber, printFields, hasBit, bitNumbers, printEntry, printSets, kindLetter, printStep, printRow, printRefusal}
+use Rattle.text.specs.Print.{digitsOf, printNumber, printFields, bitNumbers, printEntry, printSets, kindLetter, printStep, printRow, printRefusal}
+use Rattle.plan.specs.Bits.{hasBit}
 use Rattle.plan.specs.Database.{databaseOf, tableAt, rowsIn, cellsOf, database}
 use Rattle.run.specs.Runs.{results, withinLimit, directRows, question11Direct, runRows, reportRows, pairCounts, reportSteps, question11}
 use Rattle.plan.specs.Asking.{firstNo, about, tableQuestions, queryQuestions, orderQuestions, sharedQuestions, questionsOfReport, questionsOfDirect}

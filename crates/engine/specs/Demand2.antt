@@ -18,13 +18,14 @@ use Rattle.plan.specs.Plan.{groundOf, blankings}
 use Rattle.plan.specs.Questions.{question9}
 use Rattle.plan.specs.StepLists.{own-list}
 use Rattle.plan.specs.Database.{database}
+use Rattle.plan.specs.Facts.{noFacts}
 use Rattle.plan.specs.declared.step.Step.{Step}
 use Rattle.text.specs.Bytes.{Bytes}
 use Rattle.text.specs.Reading.{readReport}
 use Rattle.run.specs.Runs.{directRows, reportRows, question11, question11Direct}
 use Rattle.engine.specs.Answers.{Outcome, refused, answered, reportQuestions, directQuestions, ReportAnswer, reportAnswer, reportOutcome, directOutcome}
 use Rattle.engine.specs.AnswerLaws.{read-well, answered-report}
-use Rattle.engine.specs.Calls.{Lent, question1, question1Direct, written, noSets, ReportCall, reportAfter, reportCall, DirectCall, directAfter, directCall, cleared}
+use Rattle.engine.specs.Calls.{Lent, question1, question1Direct, written, ReportCall, reportAfter, reportCall, DirectCall, directAfter, directCall, cleared}
 use Rattle.engine.specs.Demand3Proof.{report-rows, report-reads}
 use Rattle.engine.specs.declared.answer.Answer.the-variants.{Rows, Refused}
 
@@ -90,10 +91,10 @@ module _ (text : Bytes) (m : Lent) (n : ℕ) where
 
       asked : (b : Bool) → (elim b as (λ z. ReportCall) [
         | true ↦ reportAfter (reportOutcome text) m steps
-        | false ↦ record { answer = Refused 1; tables = 0; sets = noSets; count = 0; lent = m; steps = steps }
+        | false ↦ record { answer = Refused 1; facts = noFacts; count = 0; lent = m; steps = steps }
       ]) .answer ≡ Rows n → DueWritten text n (m .result) ((elim b as (λ z. ReportCall) [
         | true ↦ reportAfter (reportOutcome text) m steps
-        | false ↦ record { answer = Refused 1; tables = 0; sets = noSets; count = 0; lent = m; steps = steps }
+        | false ↦ record { answer = Refused 1; facts = noFacts; count = 0; lent = m; steps = steps }
       ]) .lent .result)
       asked true g = after (reportOutcome text) refl g
       asked false g = clash cc

@@ -7,11 +7,12 @@ use Prim.Native.Nat.{ℕ}
 use lib.Dec.{T}
 use lib.ListN.{length}
 use Rattle.cells.specs.Row.{Row}
+use Rattle.plan.specs.Facts.{noFacts}
 use Rattle.plan.specs.declared.step.Step.{Step}
 use Rattle.text.specs.Bytes.{Bytes}
 use Rattle.text.specs.Lines.{Line}
 use Rattle.engine.specs.Answers.{Outcome, refused, answered, ReportAnswer, reportOutcome, directOutcome}
-use Rattle.engine.specs.Calls.{Lent, cleared, noSets, question1, question1Direct, written, ReportCall, reportAfter, reportCall, DirectCall, directAfter, directCall}
+use Rattle.engine.specs.Calls.{Lent, cleared, question1, question1Direct, written, ReportCall, reportAfter, reportCall, DirectCall, directAfter, directCall}
 use Rattle.engine.specs.Demand3.{SameQuery}
 use Rattle.engine.specs.Demand3Proof.{RunsAgree, direct-limit, report-limit, both-answer, runs-agree}
 use Rattle.engine.specs.declared.answer.Answer.{Answer}
@@ -41,7 +42,7 @@ report-call text m steps h = passed (question1 m steps) h
   where
     passed : (b : Bool) → T b → _≡_ {A = ReportCall} (elim b [
       | true ↦ reportAfter (reportOutcome text) m steps
-      | false ↦ record { answer = Refused 1; tables = 0; sets = noSets; count = 0; lent = m; steps = steps }
+      | false ↦ record { answer = Refused 1; facts = noFacts; count = 0; lent = m; steps = steps }
     ]) (reportAfter (reportOutcome text) m steps)
     passed true h = refl
 

@@ -12,7 +12,7 @@ use Rattle.rows.specs.Rows.{ordered}
 use Rattle.rows.specs.RowLaws.{length-ordered}
 use Rattle.rows.specs.Trees.{Database, Tree, rowsOf}
 use Rattle.plan.specs.Asking.{Question, firstNo, sharedQuestions, questionsOfDirect}
-use Rattle.plan.specs.AskingLaws.{none-then, asked-no, asked-yes}
+use Rattle.plan.specs.AskingLaws.{none-left, none-then, asked-no, asked-yes}
 use Rattle.plan.specs.Report.{Query, Report, queryOf, tableCount}
 use Rattle.plan.specs.Nodes.{joinTree}
 use Rattle.plan.specs.QueryLaws.{WellRead}
@@ -28,7 +28,6 @@ use Rattle.run.specs.LimitLaws.{read-answer}
 use Rattle.run.specs.Reading.{readOf, Handed}
 use Rattle.run.specs.Runs.{directRows, question11Direct}
 use Rattle.accept.specs.Accept.{refusal}
-use Rattle.accept.specs.AcceptLaws.{none-left}
 use Rattle.engine.specs.Answers.{Outcome, refused, answered, directQuestions, directOutcome}
 use Rattle.engine.specs.AnswerLaws.{read-well, outcome-answered, outcome-refused, refused-early}
 use Rattle.engine.specs.Calls.{written}

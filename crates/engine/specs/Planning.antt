@@ -1,11 +1,12 @@
 -- What the code's inner routines over a plan give. Serves the code only: no demand cites it. Assumes nothing.
 use mathlib.Core.Path.{_≡_}
-use mathlib.Core.List.{List, [], _++_}
+use mathlib.Core.List.{List, []}
 use Prim.Native.Nat.{ℕ, zero, suc, _-_}
-use lib.ListN.{length, getD, drop, replicate}
+use lib.ListN.{length, getD, replicate}
 use Rattle.cells.specs.Limits.{areas}
 use Rattle.rows.specs.Trees.{Database}
 use Rattle.plan.specs.Report.{joinOrder}
+use Rattle.plan.specs.Facts.{noFacts}
 use Rattle.plan.specs.Sets.{blankingSets}
 use Rattle.plan.specs.Plan.{groundOf, planTrees, blankings}
 use Rattle.plan.specs.Steps.{stepsOf}
@@ -18,13 +19,13 @@ use Rattle.joins.specs.declared.join.Joined.{Joined}
 use Rattle.joins.specs.declared.join.Joined.the-variants as J
 use Rattle.run.specs.PlanRuns.{PlanRan}
 use Rattle.engine.specs.Answers.{Outcome, refused, answered, ReportAnswer}
-use Rattle.engine.specs.Calls.{noSets, written}
+use Rattle.engine.specs.Calls.{factsOf, written}
 use Rattle.engine.specs.declared.answer.Answer.the-variants.{Rows, Refused}
 use Rattle.engine.specs.declared.planned.Planned.{Planned}
 
 -- what is handed over for a refusal
 unfoldable pub turnedDown : ℕ → Planned
-turnedDown n = record { answer = Refused n; tables = 0; sets = noSets; plan = listed [] }
+turnedDown n = record { answer = Refused n; facts = noFacts; plan = listed [] }
 
 -- a plan with the counts of rows of its first pairs
 unfoldable pub withCounts : StepList → List ℕ → ℕ → StepList
@@ -35,8 +36,7 @@ withCounts s counts (suc k) = withRows (withCounts s counts k) k (getD counts k 
 unfoldable pub handedOver : StoredQuery → List ℕ → StepList → List ℕ → Joined → Planned
 handedOver q sets s counts (J.Rows k) = record {
   answer = Rows k;
-  tables = q .«table_count»;
-  sets = sets;
+  facts = record { tables = q .«table_count»; sets = sets };
   plan = withCounts s counts (q .«table_count» - 1);
 }
 handedOver q sets s counts J.TooMany = turnedDown 11
@@ -57,8 +57,7 @@ unfoldable pub plannedFor : Outcome ReportAnswer → Planned
 plannedFor (refused n) = turnedDown n
 plannedFor (answered a) = record {
   answer = Rows (length (a .rows));
-  tables = length (a .sets);
-  sets = a .sets ++ drop (length (a .sets)) noSets;
+  facts = factsOf a;
   plan = listed (a .steps);
 }
 

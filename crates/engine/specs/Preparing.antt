@@ -7,6 +7,7 @@ use lib.Dec.{leb}
 use lib.IntN.{ℤ, pos}
 use lib.ListN.{length, replicate}
 use Rattle.cells.specs.Limits.{mostTables, cellRoom, areas, workRoom, resultRoom, stepListRoom}
+use Rattle.plan.specs.Facts.{noFacts}
 use Rattle.plan.specs.declared.step.Step.{Step}
 use Rattle.text.specs.Bytes.{Bytes}
 use Rattle.accept.specs.Accept.{Accepts}
@@ -17,7 +18,6 @@ use Rattle.runner.specs.State.{Ended}
 use Rattle.runner.specs.declared.state.Run.{Run}
 use Rattle.ready.specs.Ready.{turnedAway, QueryPlanned}
 use Rattle.ready.specs.declared.prepared.Prepared.{Prepared}
-use Rattle.engine.specs.Calls.{noSets}
 use Rattle.engine.specs.Planning.{turnedDown, handedOver}
 use Rattle.engine.specs.declared.answer.Answer.the-variants.{Refused}
 use Rattle.engine.specs.declared.planned.Planned.{Planned}
@@ -31,7 +31,7 @@ enoughLent cells work result steps = (leb workRoom work && leb resultRoom result
 
 -- a refusal, as it is answered beside a lent list
 unfoldable pub refusedReply : ℕ → Reply
-refusedReply n = record { answer = Refused n; tables = 0; sets = noSets; count = 0 }
+refusedReply n = record { answer = Refused n; facts = noFacts; count = 0 }
 
 -- ---- before a run
 
@@ -54,11 +54,11 @@ pub record Ends (p : Prepared) (r : Run) (w v v′ : List ℕ) (x : Planned) : T
 
 -- what is handed over, as it is answered beside a lent list
 unfoldable pub replied : Planned → Reply
-replied x = record { answer = x .answer; tables = x .tables; sets = x .sets; count = x .plan .count }
+replied x = record { answer = x .answer; facts = x .facts; count = x .plan .count }
 
 -- and by value
 unfoldable pub byValue : Reply → List Step → Planned
-byValue r steps = record { answer = r .answer; tables = r .tables; sets = r .sets; plan = record { steps = steps; count = r .count } }
+byValue r steps = record { answer = r .answer; facts = r .facts; plan = record { steps = steps; count = r .count } }
 
 -- the end of a call: c, w and v are the cell run, the work buffer and the result, before and after
 pub record Concludes (p : Prepared) (r : Run) (c c′ : List ℤ) (w w′ v v′ : List ℕ) (x : Planned) : Type 0 where

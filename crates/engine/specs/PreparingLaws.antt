@@ -64,7 +64,7 @@ module _ {p : Prepared} {r : Run} {w v : List ℕ} where
 
   module _ {v′ : List ℕ} {a : Joined} (e : p .number ≤ 0) (long : length (r .counts) ≡ areas) (ended : Ended (p .query) r w v v′ a) where
     pub ends-rows : {s : StepList} (k : ℕ) → a ≡ J.Rows k → s ≡ withCounts (p .plan) (r .counts) (p .query .«table_count» - 1)
-        → Ends p r w v v′ (record { answer = Rows k; tables = p .query .«table_count»; sets = p .sets; plan = s })
+        → Ends p r w v v′ (record { answer = Rows k; facts = record { tables = p .query .«table_count»; sets = p .sets }; plan = s })
     unfolding handedOver
     ends-rows {s} k f g = record {
       refused = λ h. absurd (omega (arith, e, h));
@@ -73,7 +73,7 @@ module _ {p : Prepared} {r : Run} {w v : List ℕ} where
         (
           a,
           ended,
-          ap (λ (z : StepList). record { answer = Rows k; tables = p .query .«table_count»; sets = p .sets; plan = z }) g
+          ap (λ (z : StepList). record { answer = Rows k; facts = record { tables = p .query .«table_count»; sets = p .sets }; plan = z }) g
               ∙ sym (ap (handedOver (p .query) (p .sets) (p .plan) (r .counts)) f),
         ),
       );

@@ -17,6 +17,7 @@ use Rattle.plan.specs.Report.{queryOf}
 use Rattle.plan.specs.Steps.{zeroStep}
 use Rattle.plan.specs.StepWords.{listed}
 use Rattle.plan.specs.declared.query.StoredQuery.{StoredQuery}
+use Rattle.plan.specs.Facts.{noFacts}
 use Rattle.plan.specs.declared.step.Step.{Step}
 use Rattle.plan.specs.declared.steps.StepList.{StepList}
 use Rattle.text.specs.Bytes.{Bytes}
@@ -34,7 +35,7 @@ use Rattle.ready.specs.declared.prepared.Prepared.{Prepared}
 use Rattle.engine.specs.Answers.{Outcome, refused, answered, ReportAnswer, reportOutcome}
 use Rattle.engine.specs.AnswerLaws.{no-positive, refusal-positive}
 use Rattle.engine.specs.Bounds.{report-bounded}
-use Rattle.engine.specs.Calls.{Lent, noSets, question1Direct, question1, cleared, laidOut, ReportCall, reportAfter, reportCall}
+use Rattle.engine.specs.Calls.{Lent, question1Direct, question1, cleared, laidOut, ReportCall, reportAfter, reportCall}
 use Rattle.engine.specs.DirectCode.{text-well, text-passed, text-readable, lent}
 use Rattle.engine.specs.Kept.{five-kept, nine-kept}
 use Rattle.engine.specs.Planning.{turnedDown, StepsRun, plannedFor, resultAfter, Reported}
@@ -103,11 +104,11 @@ module _ (bs : Bytes) (before after : List ℤ) (p : Prepared) (room : cellRoom 
 
 -- what is answered, and lent memory and the list of steps afterwards, as a call
 abbrev pub asCall : Reply → Lent → List Step → ReportCall
-asCall x m l = record { answer = x .answer; tables = x .tables; sets = x .sets; count = x .count; lent = m; steps = l }
+asCall x m l = record { answer = x .answer; facts = x .facts; count = x .count; lent = m; steps = l }
 
 -- the same of what is handed over by value
 abbrev pub asValue : Planned → Lent → ReportCall
-asValue x m = record { answer = x .answer; tables = x .tables; sets = x .sets; count = x .plan .count; lent = m; steps = x .plan .steps }
+asValue x m = record { answer = x .answer; facts = x .facts; count = x .plan .count; lent = m; steps = x .plan .steps }
 
 pub handed-by-value : {x : Planned} {r : Reply} {l : List Step} {k : ReportCall} (m : Lent) → x ≡ byValue r l → asCall r m l ≡ k → asValue x m ≡ k
 unfolding byValue
@@ -123,7 +124,7 @@ module _ (bs : Bytes) (c : List ℤ) (w v : List ℕ) (ys : List Step) where
   abbrev by : Bool → ReportCall
   by b = elim b [
     | true ↦ reportAfter (reportOutcome bs) (lent c w v) ys
-    | false ↦ record { answer = Refused 1; tables = 0; sets = noSets; count = 0; lent = lent c w v; steps = ys }
+    | false ↦ record { answer = Refused 1; facts = noFacts; count = 0; lent = lent c w v; steps = ys }
   ]
 
   -- question 1

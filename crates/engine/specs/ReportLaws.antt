@@ -19,7 +19,7 @@ use Rattle.rows.specs.ListLaws.{all-intro, all-elim, getD-isIn, length-range}
 use Rattle.rows.specs.Nullification.{finished}
 use Rattle.rows.specs.Trees.{Database, Tree, leaf, rowsOf}
 use Rattle.plan.specs.Asking.{Question, firstNo, about, sharedQuestions, orderQuestions, questionsOfReport}
-use Rattle.plan.specs.AskingLaws.{none-then, no-then, first-about, asked-no, asked-yes}
+use Rattle.plan.specs.AskingLaws.{none-left, none-then, no-then, first-about, asked-no, asked-yes}
 use Rattle.plan.specs.Database.{database}
 use Rattle.plan.specs.Report.{Report, Query, queryOf, tableCount, tableNumbers, joinOrder}
 use Rattle.plan.specs.Nodes.{treeOf, treesOf, treeAt, lastTree}
@@ -46,10 +46,9 @@ use Rattle.run.specs.LimitLaws.{isIn-at}
 use Rattle.run.specs.PlanRuns.{PlanRan, ran, over}
 use Rattle.run.specs.Runs.{results, withinLimit, reportRows, pairCounts, reportSteps, question11}
 use Rattle.accept.specs.Accept.{refusal}
-use Rattle.accept.specs.AcceptLaws.{none-left}
 use Rattle.engine.specs.Answers.{Outcome, refused, answered, reportQuestions, outcomeBy, ReportAnswer, reportAnswer, reportOutcome}
 use Rattle.engine.specs.AnswerLaws.{read-well, outcome-answered, outcome-refused, refused-early}
-use Rattle.engine.specs.Calls.{noSets, written}
+use Rattle.engine.specs.Calls.{factsOf, written}
 use Rattle.engine.specs.Kept.{nine-yes, query-kept}
 use Rattle.engine.specs.Planning.{turnedDown, withCounts, handedOver, StepsRun, plannedFor, resultAfter, Reported}
 use Rattle.engine.specs.PlanningLaws.{rows-counted}
@@ -83,8 +82,7 @@ report-early bs n w e f =
 abbrev handedBy : Query → ℕ → List ℕ → Joined → Planned
 handedBy q n counts (J.Rows k) = record {
   answer = Rows k;
-  tables = n;
-  sets = setWords (blankingSets q);
+  facts = record { tables = n; sets = setWords (blankingSets q) };
   plan = withCounts (listed (stepsOf (groundOf q) (replicate (length (joinOrder q)) 0))) counts (n - 1);
 }
 handedBy q n counts J.TooMany = turnedDown 11
@@ -97,8 +95,8 @@ handed-by s counts (J.Rows k) = refl
 handed-by s counts J.TooMany = refl
 
 -- each table's set as bits, and 0 for the tables that there are not
-sets-words : (S : Sets) → length S ≤ mostTables → setWords S ≡ map bitsOf S ++ drop (length (map bitsOf S)) noSets
-unfolding setWords wordsTo setOf noSets bitsOf range
+sets-words : (S : Sets) → length S ≤ mostTables → setWords S ≡ map bitsOf S ++ replicate (mostTables - length (map bitsOf S)) 0
+unfolding setWords wordsTo setOf bitsOf range
 sets-words [] h = refl
 sets-words (a ∷ []) h = refl
 sets-words (a ∷ b ∷ []) h = refl
@@ -240,7 +238,7 @@ module _ (bs : Bytes) {s : StoredQuery} {cells : List ℤ} {r : Report} (read : 
       unfolding planTree lastTree
       last-node = ap (treeAt trees) (omega (arith, nodes, pairs))
 
-    sets-all : setWords (blankingSets q) ≡ map bitsOf (blankingSets q) ++ drop (length (map bitsOf (blankingSets q))) noSets
+    sets-all : setWords (blankingSets q) ≡ map bitsOf (blankingSets q) ++ replicate (mostTables - length (map bitsOf (blankingSets q))) 0
     sets-all = sets-words (blankingSets q) (omega (arith, blanking-proper q .each, tables-few))
 
     tables-all : n ≡ length (map bitsOf (blankingSets q))
@@ -249,7 +247,7 @@ module _ (bs : Bytes) {s : StoredQuery} {cells : List ℤ} {r : Report} (read : 
     -- the plan run
     ran-gives : (w w′ : List ℕ) {x : Planned} (counts : List ℕ) (j : Joined) → length counts ≡ areas → PlanRan W trees n (n - 1) (blankings (groundOf q)) counts w w′ j
         → x ≡ handedBy q n counts j → Reported (reportOutcome bs) w w′ x
-    unfolding plannedFor resultAfter reportAnswer written flatRows
+    unfolding plannedFor factsOf resultAfter reportAnswer written flatRows
     ran-gives w w′ counts _ long (ran m few each x) e =
         let f : finished W (blankings (groundOf q)) (rowsOf W (treeAt trees (n + (n - 1) - 1))) ≡ finished W (blankings (groundOf q)) (rowsOf W (planTree (groundOf q))) =
         ap (λ (E : Tree ℕ). finished W (blankings (groundOf q)) (rowsOf W E)) (last-node counts long few each) in

@@ -59,11 +59,11 @@ trials =
     -- blank <> 5 is not true: as cells of two tables, and with a constant
     ∷ trial report (text "T|1 D|- T|1 D|5 J|L|0|1 C|0|0|<>|1|0") (text "S|0 S|1|0 M|L|0|1|1|0 R|0|-")
     ∷ trial direct (text "T|1 D|- T|1 D|5 J|L|0|1 C|0|0|<>|1|0") (text "R|0|-")
-    ∷ trial report (text "T|1 D|- T|1 D|5 J|L|0|1 C|0|0|<=|1|0 K|0|0|<>|5") (text "S|0 S|1|0|1 M|L|0|1|1|0 B|1|1 Z R|0|-")
-    ∷ trial direct (text "T|1 D|- T|1 D|5 J|L|0|1 C|0|0|<=|1|0 K|0|0|<>|5") (text "R|0|-")
+    ∷ trial report (text "T|2 D|-|1 T|1 D|1 J|L|0|1 C|0|1|=|1|0 K|0|0|<>|5") (text "S|0 S|1|0|1 M|L|0|1|1|0 B|1|1 Z R|0|-")
+    ∷ trial direct (text "T|2 D|-|1 T|1 D|1 J|L|0|1 C|0|1|=|1|0 K|0|0|<>|5") (text "R|0|-")
     -- cell -2147483647 read, -2147483648: 2
-    ∷ trial report (text "T|1 D|-2147483647") (text "S|0 R|0")
-    ∷ trial direct (text "T|1 D|-2147483647") (text "R|0")
+    ∷ trial report (text "T|1 D|-2147483647 T|1 D|-2147483646 J|I|0|1 C|0|0|<|1|0 K|0|0|=|-2147483647") (text "S|0|0|1 S|1|0|1 M|I|0|1|1|0 B|0|1 B|1|1 Z R|0|0")
+    ∷ trial direct (text "T|1 D|-2147483647 T|1 D|-2147483646 J|I|0|1 C|0|0|<|1|0 K|0|0|=|-2147483647") (text "R|0|0")
     ∷ trial report (text "T|1 D|-2147483648") (text "E|2")
     ∷ trial direct (text "T|1 D|-2147483648") (text "E|2")
     -- (0 L 1) I 2, last join naming 1 and 2: 8; naming 0 and 2: accepted

@@ -2,8 +2,9 @@
 use crate::answer::Answer;
 use cells::limits::AREAS;
 use cells::limits::STEPS;
-use cells::limits::TABLES;
 use joins::join::Joined;
+use plan::facts;
+use plan::facts::Facts;
 use plan::step::Step;
 use plan::steps::StepList;
 use ready::prepared::Prepared;
@@ -14,23 +15,21 @@ ghost use Rattle.cells.specs.Limits.{areas};
 ghost use Rattle.engine.specs.Planning.{turnedDown, withCounts};
 ghost use Rattle.engine.specs.Preparing.{Within, Ends, Concludes, replied};
 
-// What a call of the engine hands over: its answer, the count of tables, each table's set, and the plan.
+// What a call of the engine hands over: its answer, what stands beside it, and the plan.
 pub struct Planned {
     pub answer: Answer,
-    pub tables: usize,
-    pub sets: [u64; TABLES],
+    pub facts: Facts,
     pub plan: StepList,
 }
 
 // The same where the plan is in a lent list of steps: how many steps it has.
 pub struct Reply {
     pub answer: Answer,
-    pub tables: usize,
-    pub sets: [u64; TABLES],
+    pub facts: Facts,
     pub count: usize,
 }
 
-// After a refusal there is no set and no step.
+// After a refusal there is no table and no step.
 pub fn turned_down(number: u8) -> Planned
     ensures { λ r. ⌜ r ≡ turnedDown number ⌝ }
 {
@@ -45,8 +44,7 @@ pub fn turned_down(number: u8) -> Planned
     let plan = StepList { steps, count: 0 };
     Planned {
         answer: Answer::Refused(number),
-        tables: 0,
-        sets: [0u64; TABLES],
+        facts: facts::no_facts(),
         plan,
     }
 }
@@ -80,13 +78,13 @@ fn hand_over(work: &[u16], result: &mut [u16], p: Prepared, r: Run) -> Planned
     let list = p.plan;
     let tables = q.table_count as usize;
     let pairs = tables - 1;
+    let facts = Facts { tables, sets };
     let counts = r.counts;
     let found = runner::last::finish_run(work, q, r, result);
     match found {
         Joined::Rows(n) => Planned {
             answer: Answer::Rows(n),
-            tables,
-            sets,
+            facts,
             plan: with_counts(list, counts, pairs),
         },
         Joined::TooMany => turned_down(11),
@@ -123,12 +121,11 @@ pub fn reply_of(h: Planned) -> Reply
     ensures { λ r. ⌜ r ≡ replied h ⌝ }
 {
     let answer = h.answer;
-    let sets = h.sets;
+    let facts = h.facts;
     let list = h.plan;
     Reply {
         answer,
-        tables: h.tables,
-        sets,
+        facts,
         count: list.count,
     }
 }

@@ -8,15 +8,15 @@ use cells::limits::CELL_ROOM;
 use cells::limits::RESULT_ROOM;
 use cells::limits::STEP_ROOM;
 use cells::limits::STEPS;
-use cells::limits::TABLES;
 use cells::limits::WORK_ROOM;
+use plan::facts;
 use plan::step::Step;
 use plan::steps::StepList;
 use ready::prepared;
 ghost use mathlib.Core.Path.{_≡_};
 ghost use mathlib.Core.Bool.{not};
 ghost use lib.ListN.{replicate};
-ghost use Rattle.cells.specs.Limits.{stepListRoom};
+ghost use Rattle.cells.specs.Limits.{mostSteps};
 ghost use Rattle.plan.specs.Steps.{zeroStep};
 ghost use Rattle.engine.specs.Calls.{reportCall};
 ghost use Rattle.engine.specs.Preparing.{enoughLent, refusedReply, byValue};
@@ -43,8 +43,7 @@ pub fn refused(number: u8) -> Reply
 {
     Reply {
         answer: Answer::Refused(number),
-        tables: 0,
-        sets: [0u64; TABLES],
+        facts: facts::no_facts(),
         count: 0,
     }
 }
@@ -60,8 +59,7 @@ pub fn report_into(
 ) -> Reply
     ensures { λ r. ⌜ record {
       answer = r .answer;
-      tables = r .tables;
-      sets = r .sets;
+      facts = r .facts;
       count = r .count;
       lent = record { cells = now (cells .exit); work = now (work .exit); result = now (result .exit) };
       steps = now (steps .exit);
@@ -89,15 +87,14 @@ pub fn by_value(r: Reply, steps: [Step; STEPS]) -> Planned
     ensures { λ x. ⌜ x ≡ byValue r steps ⌝ }
 {
     let answer = r.answer;
-    let sets = r.sets;
+    let facts = r.facts;
     let plan = StepList {
         steps,
         count: r.count,
     };
     Planned {
         answer,
-        tables: r.tables,
-        sets,
+        facts,
         plan,
     }
 }
@@ -107,14 +104,13 @@ pub fn by_value(r: Reply, steps: [Step; STEPS]) -> Planned
 pub fn report(text: &[u8], cells: &mut [i32], work: &mut [u16], result: &mut [u16]) -> Planned
     ensures { λ r. ⌜ record {
       answer = r .answer;
-      tables = r .tables;
-      sets = r .sets;
+      facts = r .facts;
       count = r .plan .count;
       lent = record { cells = now (cells .exit); work = now (work .exit); result = now (result .exit) };
       steps = r .plan .steps;
     }
         ≡ reportCall (now (text .entry)) (record { cells = now (cells .entry); work = now (work .entry); result = now (result .entry) })
-        (replicate stepListRoom zeroStep) ⌝ }
+        (replicate mostSteps zeroStep) ⌝ }
 {
     let zero = Step {
         kind: 0,

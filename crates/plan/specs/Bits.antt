@@ -3,6 +3,10 @@ use mathlib.Core.Bool.{Bool}
 use Prim.Native.Nat.{ℕ, _/_, _%_, _^_}
 use lib.Dec.{eqb}
 
+-- how many numbers a word has
+abbrev pub wordSize : ℕ
+wordSize = 64
+
 -- whether a number's bit is set
 unfoldable pub hasBit : ℕ → ℕ → Bool
 hasBit m k = eqb (m / 2 ^ k % 2) 1

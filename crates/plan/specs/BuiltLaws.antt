@@ -1,26 +1,26 @@
 -- The trees of joins that are built as in question 5: their tables, what holds of every node, the whole tree, and the sets.
 -- Assumes nothing.
 use mathlib.Core.Path.{_≡_, refl, sym, ap, _∙_, subst}
-use mathlib.Core.Logic.{_≢_, _⊎_, inl, inr, ⊎-elim, _↔_}
-use mathlib.Core.Bool.{Bool, _&&_}
-use mathlib.Core.List.{List, [], _∷_, _++_, map}
+use mathlib.Core.Logic.{_⊎_, ⊎-elim, _↔_}
+use mathlib.Core.Bool.{_&&_}
+use mathlib.Core.List.{List, [], _∷_, map}
 use Prim.Native.Nat.{ℕ, suc, _+_, _-_, _≤_, _<_}
 use native.Mathlib.Omega.{arith}
 use lib.Dec.{T, eqb}
-use lib.ListN.{length, getD, length-map}
+use lib.ListN.{length, length-map}
 use mir.Facts.{and-yes, eqb-yes}
 use Rattle.cells.specs.Condition.{namesOf}
 use Rattle.rows.specs.Lists.{range}
-use Rattle.rows.specs.ListLaws.{_isIn_, here, there, length-range, getD-range}
+use Rattle.rows.specs.ListLaws.{_isIn_, here, length-range, getD-range}
 use Rattle.rows.specs.Trees.{Database, Tree, leaf, join}
 use Rattle.rows.specs.Shapes.{Lawful, HasTable, Disjoint}
 use Rattle.rows.specs.Sets.{Applied}
-use Rattle.plan.specs.Report.{Join, Pair, Query, tableCount, tableNumbers, conditionNumbers, conditionAt}
-use Rattle.plan.specs.Nodes.{grown, tablesAt, tablesOfPair, nodesOf, treeAt, treeOf, treesOf, lastTree}
+use Rattle.plan.specs.Report.{Join, Pair, Query, tableCount, tableNumbers, conditionAt}
+use Rattle.plan.specs.Nodes.{grown, tablesAt, nodesOf, treeAt, treeOf, treesOf, lastTree}
 use Rattle.plan.specs.Sets.{setOf, setsBy, emptySets}
 use Rattle.plan.specs.Questions.{lowerSides, sidesOf, noneTwice, wellBuilt}
 use Rattle.plan.specs.NodeLaws.{Matched, noPair, nextPair, Alike, alike-grown, grown-old, grown-length}
-use Rattle.plan.specs.StageLaws.{Stages, stages, usedBy, OpenApart, OpenHas, every-node, every-node-at, from-last, last-has, sides-lower}
+use Rattle.plan.specs.StageLaws.{Stages, stages, usedBy, OpenApart, every-node, every-node-at, from-last, last-has, sides-lower}
 use Rattle.plan.specs.SetLaws.{Numbered, Exact, exact-end}
 
 matched-length : {G : Join → Type 0} {ps : List Pair} {js : List Join} → Matched G ps js → length ps ≡ length js

@@ -6,6 +6,7 @@ use Prim.Native.Nat.{ℕ, zero, suc, _+_, _<_, _≤_}
 use native.Mathlib.Omega.{arith}
 use lib.ListN.{length, getD, take, replicate, length-take, length-map}
 use lib.Seq.{length-take-le}
+use Rattle.cells.specs.Limits.{mostTables, mostPairs, mostNodes}
 use Rattle.rows.specs.Lists.{range}
 use Rattle.rows.specs.ListLaws.{_isIn_, here, append-elim}
 use Rattle.plan.specs.Report.{Join, Pair, Query, tableCount, tableNumbers, joinPairs}
@@ -62,8 +63,8 @@ pub blanking-proper : (q : Query) → Proper q (blankingSets q)
 unfolding blankingSets
 blanking-proper q = proper-by q (joinNodes q) (q .joins) (emptySets q) (proper-empty q)
 
-module _ (q : Query) (ps : List Pair) (small : tableCount q ≤ 8) (few : length ps ≤ 7) where
-  pub nodes-most : length (nodesOf q ps) ≤ 15
+module _ (q : Query) (ps : List Pair) (small : tableCount q ≤ mostTables) (few : length ps ≤ mostPairs) where
+  pub nodes-most : length (nodesOf q ps) ≤ mostNodes
   nodes-most = omega (arith, node-count (tableCount q) ps, ap length (nodes-from q (tableCount q) ps ps refl refl))
 
   -- the sets so far
@@ -87,9 +88,9 @@ no-sets (x ∷ l) zero = refl
 no-sets (x ∷ l) (suc t) = no-sets l t
 
 -- "a table starts empty"
-pub empty-words : (q : Query) → replicate 8 0 ≡ setWords (emptySets q)
+pub empty-words : (q : Query) → replicate mostTables 0 ≡ setWords (emptySets q)
 unfolding setWords wordsTo emptySets tableNumbers setOf range
-empty-words q = tab-same (λ t. 0) (λ t. bitsOf (setOf (emptySets q) t)) 0 8 (λ t a b. sym (zero-word (no-sets (range 0 (tableCount q)) t)))
+empty-words q = tab-same (λ t. 0) (λ t. bitsOf (setOf (emptySets q) t)) 0 mostTables (λ t a b. sym (zero-word (no-sets (range 0 (tableCount q)) t)))
   where
     zero-word : {C : List ℕ} → C ≡ [] → bitsOf C ≡ 0
     zero-word e = ap bitsOf e ∙ bits-none

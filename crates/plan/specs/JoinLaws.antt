@@ -1,6 +1,6 @@
 -- Laws of joins as the code holds them: their conditions and the tables that these name, as bits. Assumes nothing.
 use mathlib.Core.Path.{_≡_, sym, ap, _∙_, subst}
-use mathlib.Core.Logic.{_⊎_, inl, inr, ⊎-elim, by-cases}
+use mathlib.Core.Logic.{by-cases}
 use mathlib.Core.Bool.{Bool, not}
 use mathlib.Core.List.{List, [], _∷_}
 use Prim.Native.Nat.{ℕ, _<_, _≤_}
@@ -9,7 +9,7 @@ use lib.Bits.{bitOr}
 use lib.Dec.{T, ltb, not-T}
 use lib.IntN.{ℤ}
 use lib.ListN.{length, getD, List·getD-eq-default}
-use mir.Facts.{ltb-yes, ltb-no, eqb-yes, yes-eqb}
+use mir.Facts.{ltb-yes, ltb-no}
 use lib.Seq.{getD-take, length-take-le}
 use Rattle.cells.specs.TableLaws.{getD-within}
 use Rattle.cells.specs.Condition.{namesOf, sideNames}
@@ -20,11 +20,11 @@ use Rattle.rows.specs.ListLaws.{_isIn_, here, there, decT, has-intro, has-elim}
 use Rattle.rows.specs.ListLaws.{keep-elim, keep-intro, keep-append, range-intro, range-elim, flatMap-intro, flatMap-elim}
 use Rattle.plan.specs.Report.{Query, conditionNumbers, conditionAt, noCondition, namedBy}
 use Rattle.plan.specs.Stored.{queryIn}
-use Rattle.plan.specs.Bits.{hasBit}
+use Rattle.plan.specs.Bits.{wordSize, hasBit}
 use Rattle.plan.specs.Steps.{bitsOf}
-use Rattle.plan.specs.BitLaws.{bit-elim, bit-intro, word-is, bits-append, has-one}
+use Rattle.plan.specs.BitLaws.{bit-elim, bit-intro, word-is, bits-append}
 use Rattle.plan.specs.Words.{onlyIf, unionTo, wordTables, tableBits, nameBits, namedBits, conditionBits}
-use Rattle.plan.specs.WordLaws.{or-elim, or-intro, only-elim, only-intro, union-elim, union-intro}
+use Rattle.plan.specs.WordLaws.{only-elim, only-intro, union-elim, union-intro}
 use Rattle.plan.specs.declared.query.StoredQuery.{StoredQuery}
 
 -- the conditions that are kept, and how many
@@ -48,8 +48,8 @@ module _ (q : StoredQuery) (h : q .«condition_count» ≤ length (q .conditions
 pub names-column : (c : Condition) (u v : ℕ) → c .side ≡ Column u v → nameBits c ≡ bitOr (tableBits (c .table)) (tableBits u)
 unfolding nameBits namesOf sideNames tableBits wordTables
 names-column c u v e =
-    rw e (ap bitsOf (keep-append (λ (t : ℕ). ltb t 64) (c .table ∷ []) (u ∷ [])) ∙ bits-append (keep (λ t. ltb t 64) (c .table ∷ []))
-    (keep (λ t. ltb t 64) (u ∷ [])))
+    rw e (ap bitsOf (keep-append (λ (t : ℕ). ltb t wordSize) (c .table ∷ []) (u ∷ [])) ∙ bits-append (keep (λ t. ltb t wordSize) (c .table ∷ []))
+    (keep (λ t. ltb t wordSize) (u ∷ [])))
 
 pub names-constant : (c : Condition) → (z : ℤ) → c .side ≡ Constant z → nameBits c ≡ tableBits (c .table)
 unfolding nameBits namesOf sideNames tableBits
@@ -88,45 +88,24 @@ module _ (q : Query) (C : List ℕ) where
   named-elim u t =
       let (k, l, x) = union-elim (λ (i : ℕ). onlyIf (hasBit (conditionBits q C) i) (nameBits (conditionAt q i))) (length (q .conditions)) u t in
       let (a, b) = only-elim (hasBit (conditionBits q C) k) (nameBits (conditionAt q k)) u x in
-      let (m, s) = keep-elim (λ (t : ℕ). ltb t 64) (namesOf (conditionAt q k)) (bit-elim (wordTables (namesOf (conditionAt q k))) u b) in
-      keep-intro (λ (t : ℕ). ltb t 64) (flatMap-intro (λ (c : ℕ). namesOf (conditionAt q c)) (condition-elim k a .0) m) s
+      let (m, s) = keep-elim (λ (t : ℕ). ltb t wordSize) (namesOf (conditionAt q k)) (bit-elim (wordTables (namesOf (conditionAt q k))) u b) in
+      keep-intro (λ (t : ℕ). ltb t wordSize) (flatMap-intro (λ (c : ℕ). namesOf (conditionAt q c)) (condition-elim k a .0) m) s
 
-  -- a table that is named is named by a condition that there is, or by one that there is not
-  named-cases : (u : ℕ) → u isIn wordTables (namedBy q C)
-      → T (hasBit (namedBits q (conditionBits q C)) u) ⊎ ((u ≡ 0) × ((k : ℕ) × k isIn C × (length (q .conditions) ≤ k)))
+  -- a condition that there is not names no table of a word
+  named-intro : (u : ℕ) → u isIn wordTables (namedBy q C) → T (hasBit (namedBits q (conditionBits q C)) u)
   unfolding namedBits wordTables namedBy nameBits conditionAt noCondition namesOf sideNames
-  named-cases u m =
-      let (n, s) = keep-elim (λ (t : ℕ). ltb t 64) (namedBy q C) m in
+  named-intro u m =
+      let (n, s) = keep-elim (λ (t : ℕ). ltb t wordSize) (namedBy q C) m in
       let (k, c, x) = flatMap-elim (λ (c : ℕ). namesOf (conditionAt q c)) C n in
       by-cases (decT (ltb k (length (q .conditions))))
-      (λ l. inl (union-intro (λ (i : ℕ). onlyIf (hasBit (conditionBits q C) i) (nameBits (conditionAt q i))) (length (q .conditions)) u k (ltb-yes l)
+      (λ l. union-intro (λ (i : ℕ). onlyIf (hasBit (conditionBits q C) i) (nameBits (conditionAt q i))) (length (q .conditions)) u k (ltb-yes l)
       (only-intro (hasBit (conditionBits q C) k) (nameBits (conditionAt q k)) u (condition-intro k c (ltb-yes l))
-      (bit-intro (keep-intro (λ (t : ℕ). ltb t 64) x s)))))
+      (bit-intro (keep-intro (λ (t : ℕ). ltb t wordSize) x s))))
       (λ l. let b : length (q .conditions) ≤ k = ltb-no (not-T (ltb k (length (q .conditions))) l) in
-      inr (single (subst (λ (d : Condition). u isIn namesOf d) (List·getD-eq-default (q .conditions) noCondition b) x), (k, c, b)))
+      absurd (none (subst (λ (d : Condition). u isIn namesOf d) (List·getD-eq-default (q .conditions) noCondition b) x) (ltb-yes s)))
     where
-      single : u isIn (0 ∷ []) → u ≡ 0
-      single (here e) = e
+      none : u isIn (65535 ∷ []) → u < wordSize → ⊥
+      none (here e) l = omega arith
 
-  -- a condition that there is not names table 0
-  zero-is : (k : ℕ) → k isIn C → length (q .conditions) ≤ k → (u : ℕ) → u ≡ 0 → u isIn wordTables (namedBy q C)
-  unfolding wordTables namedBy conditionAt noCondition namesOf sideNames
-  zero-is k c b u e = keep-intro (λ (t : ℕ). ltb t 64) (flatMap-intro (λ (c : ℕ). namesOf (conditionAt q c)) c
-      (subst (λ (d : Condition). u isIn namesOf d) (sym (List·getD-eq-default (q .conditions) noCondition b)) (here e))) (rw e tt)
-
-  -- where each of the conditions is there
-  pub named-within : ((k : ℕ) → k isIn C → k < length (q .conditions)) → namedBits q (conditionBits q C) ≡ bitsOf (wordTables (namedBy q C))
-  named-within within = word-is (namedBits q (conditionBits q C)) (wordTables (namedBy q C)) (λ u. (
-    named-elim u,
-    λ m. ⊎-elim (λ x. x) (λ (e, r). let (k, c, b) = r in absurd (let l = within k c in omega arith)) (named-cases u m),
-  ))
-
-  -- where one of them is not
-  pub named-beyond : (k : ℕ) → k isIn C → length (q .conditions) ≤ k → bitOr (namedBits q (conditionBits q C)) 1 ≡ bitsOf (wordTables (namedBy q C))
-  named-beyond k c b = word-is (bitOr (namedBits q (conditionBits q C)) 1) (wordTables (namedBy q C)) (λ u. (
-    λ t. ⊎-elim (named-elim u) (λ x. zero-named u (eqb-yes (subst T (has-one 0 u) x))) (or-elim (namedBits q (conditionBits q C)) 1 u t),
-    λ m. or-intro (namedBits q (conditionBits q C)) 1 u (⊎-elim inl (λ (e, r). inr (subst T (sym (has-one 0 u)) (yes-eqb e))) (named-cases u m)),
-  ))
-    where
-      zero-named : (u : ℕ) → u ≡ 0 → u isIn wordTables (namedBy q C)
-      zero-named u e = zero-is k c b u e
+  pub named-word : namedBits q (conditionBits q C) ≡ bitsOf (wordTables (namedBy q C))
+  named-word = word-is (namedBits q (conditionBits q C)) (wordTables (namedBy q C)) (λ u. (named-elim u, named-intro u))

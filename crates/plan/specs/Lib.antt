@@ -4,6 +4,7 @@ pub mod Nodes
 pub mod Sets
 pub mod Plan
 pub mod Steps
+pub mod Facts
 pub mod TableQuestions
 pub mod Database
 pub mod Questions

@@ -2,24 +2,24 @@
 -- (questions 5 and 9), nodes that are no side yet have no table in common, and the last node has every table.
 -- Assumes nothing.
 use mathlib.Core.Path.{_≡_, refl, sym, ap, _∙_, subst}
-use mathlib.Core.Logic.{_≢_, _⊎_, inl, inr, ⊎-elim, by-cases, _↔_}
-use mathlib.Core.Bool.{Bool, true, false, not, _&&_}
-use mathlib.Core.List.{List, [], _∷_, _++_, map}
-use Prim.Native.Nat.{ℕ, zero, suc, _+_, _*_, _-_, _≤_, _<_}
+use mathlib.Core.Logic.{_⊎_, inl, inr, ⊎-elim, by-cases, _↔_}
+use mathlib.Core.Bool.{_&&_}
+use mathlib.Core.List.{List, [], _∷_, _++_}
+use Prim.Native.Nat.{ℕ, suc, _+_, _-_, _<_}
 use native.Mathlib.Decide.{ℕ-discrete}
 use native.Mathlib.Omega.{arith}
 use native.Mathlib.Nat.{add-suc}
-use lib.Dec.{T, eqb, ltb, T-not, not-T, eqb-refl}
-use lib.ListN.{length, getD, length-append, List·getD-append, length-map}
+use lib.Dec.{T, ltb}
+use lib.ListN.{length, getD, length-append, List·getD-append}
 use lib.Seq.{getD-append-seam}
 use mir.Facts.{and-yes, ltb-yes}
-use Rattle.rows.specs.Lists.{range, has, keep}
-use Rattle.rows.specs.ListLaws.{_isIn_, here, there, isIn-cast, append-left, append-right, append-elim, EachPair, eachNil, eachCons, has-intro, range-intro, range-elim}
+use Rattle.rows.specs.Lists.{has}
+use Rattle.rows.specs.ListLaws.{_isIn_, append-left, append-right, append-elim}
 use Rattle.rows.specs.Trees.{Tree, leaf, join}
-use Rattle.rows.specs.Shapes.{HasTable, Disjoint}
+use Rattle.rows.specs.Shapes.{HasTable}
 use Rattle.plan.specs.Report.{Join, Pair}
 use Rattle.plan.specs.Nodes.{grown, tablesAt, tablesOfPair, treeAt, treeOf}
-use Rattle.plan.specs.Questions.{lowerSides, sidesOf, noneTwice}
+use Rattle.plan.specs.Questions.{lowerSides}
 
 -- ---- lists that grow
 

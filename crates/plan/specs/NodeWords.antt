@@ -11,6 +11,7 @@ use lib.Dec.{ltb, not-T}
 use lib.ListN.{length, getD, set, take, length-set, length-map, length-append, List·getD-append, List·getD-eq-default}
 use lib.Seq.{ext-getD, getD-set-same, getD-set-other, getD-append-seam, take-suc, take-suc-set, length-take-le, getD-take}
 use mir.Facts.{ltb-yes, ltb-no}
+use Rattle.cells.specs.Limits.{mostTables, mostNodes}
 use Rattle.cells.specs.TableLaws.{getD-within}
 use Rattle.rows.specs.Lists.{range}
 use Rattle.rows.specs.ListLaws.{there, decT, length-range}
@@ -103,11 +104,11 @@ module _ (o : Order) (ps : List Pair) (is : OrderIs o ps) where
 -- ---- one node more
 
 -- an element more, and the word of what it stands for
-pub grow-words : {A : Type 0} (g : A → List ℕ) (d : A) (l : List A) (x : A) → length l < 15
-    → set (wordsTo (λ i. g (getD l i d)) 15) (length l) (bitsOf (g x)) ≡ wordsTo (λ i. g (getD (l ++ (x ∷ [])) i d)) 15
+pub grow-words : {A : Type 0} (g : A → List ℕ) (d : A) (l : List A) (x : A) → length l < mostNodes
+    → set (wordsTo (λ i. g (getD l i d)) mostNodes) (length l) (bitsOf (g x)) ≡ wordsTo (λ i. g (getD (l ++ (x ∷ [])) i d)) mostNodes
 unfolding wordsTo
-grow-words {A} g d l x room = ext-getD 0 (set (map old (range 0 15)) (length l) (bitsOf (g x))) (map new (range 0 15))
-    (length-set (map old (range 0 15)) (length l) (bitsOf (g x)) ∙ tab-length old 15 ∙ sym (tab-length new 15)) each
+grow-words {A} g d l x room = ext-getD 0 (set (map old (range 0 mostNodes)) (length l) (bitsOf (g x))) (map new (range 0 mostNodes))
+    (length-set (map old (range 0 mostNodes)) (length l) (bitsOf (g x)) ∙ tab-length old mostNodes ∙ sym (tab-length new mostNodes)) each
   where
     old : ℕ → ℕ
     old i = bitsOf (g (getD l i d))
@@ -120,23 +121,23 @@ grow-words {A} g d l x room = ext-getD 0 (set (map old (range 0 15)) (length l) 
         (λ h. let b : length l ≤ i = ltb-no (not-T (ltb i (length l)) h) in
         List·getD-eq-default (l ++ (x ∷ [])) d (omega (arith, length-append l (x ∷ []))) ∙ sym (List·getD-eq-default l d b))
 
-    each : (i : ℕ) → i < length (set (map old (range 0 15)) (length l) (bitsOf (g x))) → getD
-        (set (map old (range 0 15)) (length l) (bitsOf (g x))) i 0 ≡ getD (map new (range 0 15)) i 0
+    each : (i : ℕ) → i < length (set (map old (range 0 mostNodes)) (length l) (bitsOf (g x))) → getD
+        (set (map old (range 0 mostNodes)) (length l) (bitsOf (g x))) i 0 ≡ getD (map new (range 0 mostNodes)) i 0
     each i h =
-        let b : i < 15 = omega (arith, length-set (map old (range 0 15)) (length l) (bitsOf (g x)), tab-length old 15) in
+        let b : i < mostNodes = omega (arith, length-set (map old (range 0 mostNodes)) (length l) (bitsOf (g x)), tab-length old mostNodes) in
         by-cases (ℕ-discrete i (length l))
-        (λ e. rw e (getD-set-same (map old (range 0 15)) (length l) (bitsOf (g x)) 0 (omega (arith, tab-length old 15))
-        ∙ sym (tab-at new 15 (length l) 0 room ∙ ap (λ (y : A). bitsOf (g y)) (getD-append-seam l x [] d))))
-        (λ e. getD-set-other (map old (range 0 15)) (length l) i (bitsOf (g x)) 0 e ∙ tab-at old 15 i 0 b
-        ∙ sym (tab-at new 15 i 0 b ∙ ap (λ (y : A). bitsOf (g y)) (at-old i e)))
+        (λ e. rw e (getD-set-same (map old (range 0 mostNodes)) (length l) (bitsOf (g x)) 0 (omega (arith, tab-length old mostNodes))
+        ∙ sym (tab-at new mostNodes (length l) 0 room ∙ ap (λ (y : A). bitsOf (g y)) (getD-append-seam l x [] d))))
+        (λ e. getD-set-other (map old (range 0 mostNodes)) (length l) i (bitsOf (g x)) 0 e ∙ tab-at old mostNodes i 0 b
+        ∙ sym (tab-at new mostNodes i 0 b ∙ ap (λ (y : A). bitsOf (g y)) (at-old i e)))
 
-pub node-next : (nodes : List (List ℕ)) (x : List ℕ) → length nodes < 15 → set (nodeWords nodes) (length nodes) (bitsOf x) ≡ nodeWords
+pub node-next : (nodes : List (List ℕ)) (x : List ℕ) → length nodes < mostNodes → set (nodeWords nodes) (length nodes) (bitsOf x) ≡ nodeWords
     (nodes ++ (x ∷ []))
 unfolding nodeWords tablesAt
 node-next nodes x h = grow-words (λ (l : List ℕ). l) [] nodes x h
 
 -- a table more
-pub leaf-next : (t : ℕ) → t < 8 → set (leafWords t) t (2 ^ t) ≡ leafWords (t + 1)
+pub leaf-next : (t : ℕ) → t < mostTables → set (leafWords t) t (2 ^ t) ≡ leafWords (t + 1)
 unfolding leafWords bitsOf
 leaf-next t h =
     let n : length (map (λ (u : ℕ). u ∷ []) (range 0 t)) ≡ t = length-map (range 0 t) (λ u. u ∷ []) ∙ length-range 0 t in
@@ -162,13 +163,13 @@ module _ (n : ℕ) (ps : List Pair) where
       ∙ ap (λ (k : ℕ). k + length ps) (length-map (range 0 n) (λ t. t ∷ []) ∙ length-range 0 n)
 
   -- a pair more
-  pair-next : (p : Pair) → n + length ps < 15
+  pair-next : (p : Pair) → n + length ps < mostNodes
       → set (nodeWords (nodesFrom n ps)) (n + length ps)
       (bitOr (getD (nodeWords (nodesFrom n ps)) (p .0) 0) (getD (nodeWords (nodesFrom n ps)) (p .1) 0))
       ≡ nodeWords (nodesFrom n (ps ++ (p ∷ [])))
   unfolding nodesFrom tablesOfPair
   pair-next p h =
-      let few : length (nodesFrom n ps) ≤ 15 = omega (arith, node-count) in
+      let few : length (nodesFrom n ps) ≤ mostNodes = omega (arith, node-count) in
       rw (
         grown-last tablesOfPair (map (λ t. t ∷ []) (range 0 n)) ps p,
         node-word (nodesFrom n ps) few (p .0),
@@ -179,7 +180,7 @@ module _ (n : ℕ) (ps : List Pair) where
       (node-next (nodesFrom n ps) (tablesOfPair (nodesFrom n ps) p) (omega (arith, node-count)))
 
 -- the next pair of an array makes its node
-pub node-turn : (n i : ℕ) (pairs : List StoredPair) (p : StoredPair) (nodes : List ℕ) (a b : ℕ) → i < length pairs → n + i < 15
+pub node-turn : (n i : ℕ) (pairs : List StoredPair) (p : StoredPair) (nodes : List ℕ) (a b : ℕ) → i < length pairs → n + i < mostNodes
     → ((d : StoredPair) → getD pairs i d ≡ p)
     → nodes ≡ nodeWords (nodesFrom n (map pairIn (take i pairs))) → a ≡ getD nodes (p .left) 0 → b ≡ getD nodes (p .right) 0
     → set nodes (n + i) (bitOr a b) ≡ nodeWords (nodesFrom n (map pairIn (take (i + 1) pairs)))

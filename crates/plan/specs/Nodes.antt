@@ -3,9 +3,8 @@
 use mathlib.Core.List.{List, [], _∷_, _++_, map}
 use Prim.Native.Nat.{ℕ, _-_}
 use lib.ListN.{length, getD}
-use Rattle.rows.specs.Lists.{range}
 use Rattle.rows.specs.Trees.{Tree, leaf, join}
-use Rattle.plan.specs.Report.{Join, Pair, Query, tableCount, tableNumbers, joinPairs}
+use Rattle.plan.specs.Report.{Join, Pair, Query, tableNumbers, joinPairs}
 
 -- a list in which each of the given things makes one more element, from those before it
 unfoldable pub grown : {A X : Type 0} → (List A → X → A) → List A → List X → List A

@@ -4,6 +4,7 @@ use mathlib.Core.Path.{_≡_}
 use mathlib.Core.List.{List, map}
 use Prim.Native.Nat.{_≤_}
 use lib.ListN.{length, take}
+use Rattle.cells.specs.Limits.{mostPairs}
 use Rattle.plan.specs.Report.{Pair}
 use Rattle.plan.specs.Stored.{pairIn}
 use Rattle.plan.specs.declared.query.StoredJoin.{StoredJoin}
@@ -20,6 +21,6 @@ orderIn o = map pairIn (take (o .count) (o .pairs))
 
 -- these pairs are held, within the array's room
 pub record OrderIs (o : Order) (ps : List Pair) : Type 0 where
-  pub room : o .count ≤ 7
-  pub full : length (o .pairs) ≡ 7
+  pub room : o .count ≤ mostPairs
+  pub full : length (o .pairs) ≡ mostPairs
   pub pairs : orderIn o ≡ ps

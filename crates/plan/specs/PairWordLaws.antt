@@ -11,6 +11,7 @@ use lib.IntN.{ℤ}
 use lib.ListN.{length, getD, length-map, List·getD-map}
 use mir.Facts.{and-yes, yes-and, or-yes, eqb-yes, yes-eqb}
 use borrow.Author.Tests.{ne-eqb}
+use Rattle.cells.specs.Limits.{mostTables, mostPairs, mostNodes, mostConditions}
 use Rattle.cells.specs.BoolLaws.{same-test}
 use Rattle.cells.specs.Below.{at-below}
 use Rattle.cells.specs.declared.condition.Condition.{Condition}
@@ -22,12 +23,12 @@ use Rattle.plan.specs.Report.{Pair, Query, tableCount, conditionNumbers,
 use Rattle.plan.specs.Nodes.{tablesAt}
 use Rattle.plan.specs.Sets.{Sets, setOf}
 use Rattle.plan.specs.Plan.{Ground, between, crosses, inEvery, usable, paired, fitsKind, orderNodes, usableAt, allIn, pairFits, planned, plannedJoins}
-use Rattle.plan.specs.Bits.{hasBit}
+use Rattle.plan.specs.Bits.{wordSize, hasBit}
 use Rattle.plan.specs.Steps.{bitsOf}
 use Rattle.plan.specs.BitLaws.{same-bits, has-bits, bit-elim, bit-intro, word-is, bits-none, some-bits}
 use Rattle.plan.specs.Words.{everyBit, everyUnless, wordTables, setWords, nodeWords, namedBits, conditionBits, joinBits}
 use Rattle.plan.specs.WordLaws.{or-elim, or-intro, and-elim, and-intro, meet-elim, meet-intro}
-use Rattle.plan.specs.JoinLaws.{condition-elim, condition-intro, named-within}
+use Rattle.plan.specs.JoinLaws.{condition-elim, condition-intro, named-word}
 use Rattle.plan.specs.SetWords.{Proper, set-word, node-word, number-elim}
 use Rattle.plan.specs.FoldWords.{nodes-below, nodes-most}
 use Rattle.plan.specs.PairWords.{commonBits, betweenBits, crossesBits, crossingBits, withinBits, usableWord}
@@ -49,32 +50,37 @@ unfolding betweenBits between
 between-word t (Column u v) s l = rw (has-bits s t, has-bits l u, has-bits l t, has-bits s u)
 between-word t (Constant z) s l = refl
 
-every-has : (k : ℕ) → k < 64 → T (hasBit everyBit k)
+every-has : (k : ℕ) → k < wordSize → T (hasBit everyBit k)
 unfolding everyBit hasBit
-every-has k h = at-below (λ (i : ℕ). hasBit 18446744073709551615 i) 64 tt k h
+every-has k h = at-below (λ (i : ℕ). hasBit 18446744073709551615 i) wordSize tt k h
 
-crosses-word : (c : Condition) (s l : List ℕ) → crossesBits c (bitsOf s) (bitsOf l) ≡ crosses c s l
+pub crosses-word : (c : Condition) (s l : List ℕ) → crossesBits c (bitsOf s) (bitsOf l) ≡ crosses c s l
 unfolding crossesBits crosses
 crosses-word c s l = between-word (c .table) (c .side) s l
 
 -- ---- usable conditions
 
-module _ (q : Query) (S : Sets) (small : length S ≤ 8) (numbers : length (q .conditions) ≤ 64) where
-  module _ (ts : List ℕ) (below : (t : ℕ) → t isIn ts → t < 8) where
+-- a usable condition is one that there is
+usable-numbered : (q : Query) (S : Sets) (s l : List ℕ) (k : ℕ) → k isIn usable q S s l → k isIn conditionNumbers q
+unfolding usable
+usable-numbered q S s l k m = keep-elim (λ (k : ℕ). crosses (conditionAt q k) s l && (inEvery S s k || inEvery S l k)) (conditionNumbers q) m .0
+
+module _ (q : Query) (S : Sets) (small : length S ≤ mostTables) (numbers : length (q .conditions) ≤ mostConditions) where
+  module _ (ts : List ℕ) (below : (t : ℕ) → t isIn ts → t < mostTables) where
     common-elim : (k : ℕ) → T (hasBit (commonBits (setWords S) (bitsOf ts)) k) → T (inEvery S ts k)
     unfolding commonBits inEvery everyUnless
     common-elim k h = all-intro (λ (t : ℕ). has (setOf S t) k) ts (λ t m.
         let x : T (hasBit (everyUnless (hasBit (bitsOf ts) t) (getD (setWords S) t 0)) k) =
-        meet-elim (λ (t : ℕ). everyUnless (hasBit (bitsOf ts) t) (getD (setWords S) t 0)) 8 k h t (below t m) in
+        meet-elim (λ (t : ℕ). everyUnless (hasBit (bitsOf ts) t) (getD (setWords S) t 0)) mostTables k h t (below t m) in
         has-intro (bit-elim (setOf S t) k
         (subst (λ (w : ℕ). T (hasBit w k)) (set-word S small t) (chosen (hasBit (bitsOf ts) t) (bit-intro m) (getD (setWords S) t 0) x))))
       where
         chosen : (b : Bool) → T b → (w : ℕ) → T (hasBit (everyUnless b w) k) → T (hasBit w k)
         chosen true y w x = x
 
-    common-intro : (k : ℕ) → k < 64 → T (inEvery S ts k) → T (hasBit (commonBits (setWords S) (bitsOf ts)) k)
+    common-intro : (k : ℕ) → k < wordSize → T (inEvery S ts k) → T (hasBit (commonBits (setWords S) (bitsOf ts)) k)
     unfolding commonBits inEvery everyUnless
-    common-intro k l h = meet-intro (λ (t : ℕ). everyUnless (hasBit (bitsOf ts) t) (getD (setWords S) t 0)) 8 k l
+    common-intro k l h = meet-intro (λ (t : ℕ). everyUnless (hasBit (bitsOf ts) t) (getD (setWords S) t 0)) mostTables k l
         (λ t b. choose (hasBit (bitsOf ts) t) (getD (setWords S) t 0) (λ y.
         subst (λ (w : ℕ). T (hasBit w k)) (sym (set-word S small t))
         (bit-intro (has-elim (setOf S t) k (all-elim (λ (t : ℕ). has (setOf S t) k) ts h t (bit-elim ts t y))))))
@@ -100,7 +106,7 @@ module _ (q : Query) (S : Sets) (small : length S ≤ 8) (numbers : length (q .c
         m : ℕ
         m = commonBits (setWords S) (bitsOf ts)
 
-  module _ (s l : List ℕ) (bs : (t : ℕ) → t isIn s → t < 8) (bl : (t : ℕ) → t isIn l → t < 8) where
+  module _ (s l : List ℕ) (bs : (t : ℕ) → t isIn s → t < mostTables) (bl : (t : ℕ) → t isIn l → t < mostTables) where
     usable-word : usableWord q (setWords S) (bitsOf s) (bitsOf l) ≡ bitsOf (usable q S s l)
     unfolding usableWord usable crossingBits
     usable-word = word-is
@@ -138,10 +144,15 @@ module _ (q : Query) (S : Sets) (small : length S ≤ 8) (numbers : length (q .c
             (⊎-elim (λ z. inl (common-intro s bs k (omega arith) z)) (λ z. inr (common-intro l bl k (omega arith) z))
             (or-yes (inEvery S s k) (inEvery S l k) y)))
 
--- a usable condition is one that there is
-usable-numbered : (q : Query) (S : Sets) (s l : List ℕ) (k : ℕ) → k isIn usable q S s l → k isIn conditionNumbers q
-unfolding usable
-usable-numbered q S s l k m = keep-elim (λ (k : ℕ). crosses (conditionAt q k) s l && (inEvery S s k || inEvery S l k)) (conditionNumbers q) m .0
+    -- the same, with the two tests
+    pub usable-sides : usableBits q (setWords S) (bitsOf s) (bitsOf l)
+        ≡ record { conditions = bitsOf (usable q S s l); left = all (inEvery S s) (usable q S s l); right = all (inEvery S l) (usable q S s l) }
+    unfolding usableBits
+    usable-sides = rw (
+      usable-word,
+      within-word s bs (usable q S s l) (usable-numbered q S s l),
+      within-word l bl (usable q S s l) (usable-numbered q S s l),
+    )
 
 pub usable-in-numbers : (g : Ground) (p : Pair) (k : ℕ) → k isIn usableAt g p → k isIn conditionNumbers (g .query)
 unfolding usableAt
@@ -149,33 +160,26 @@ usable-in-numbers g p k m = usable-numbered (g .query) (g .sets) (tablesAt (orde
 
 -- ---- a pair of the order
 
-module _ (g : Ground) (proper : Proper (g .query) (g .sets)) (small : tableCount (g .query) ≤ 8) (numbers : length (g .query .conditions) ≤ 64)
-    (few : length (g .order) ≤ 7) where
-  sets-few : length (g .sets) ≤ 8
+module _ (g : Ground) (proper : Proper (g .query) (g .sets)) (small : tableCount (g .query) ≤ mostTables) (numbers : length (g .query .conditions) ≤ mostConditions)
+    (few : length (g .order) ≤ mostPairs) where
+  sets-few : length (g .sets) ≤ mostTables
   sets-few = omega (arith, proper .each)
 
-  under-below : (i t : ℕ) → t isIn tablesAt (orderNodes g) i → t < 8
+  under-below : (i t : ℕ) → t isIn tablesAt (orderNodes g) i → t < mostTables
   unfolding orderNodes
   under-below i t m = let b = nodes-below (g .query) (g .order) i t m in omega arith
 
-  nodes-few : length (orderNodes g) ≤ 15
+  nodes-few : length (orderNodes g) ≤ mostNodes
   unfolding orderNodes
   nodes-few = nodes-most (g .query) (g .order) small few
 
-  pub usable-in : (sets nodes : List ℕ) (p : Pair) → sets ≡ setWords (g .sets) → nodes ≡ nodeWords (orderNodes g) → usableBits (g .query) sets nodes p
-      ≡ usableIn g p
-  unfolding usableBits usableIn usableAt allIn
+  pub usable-in : (sets nodes : List ℕ) (p : Pair) → sets ≡ setWords (g .sets) → nodes ≡ nodeWords (orderNodes g)
+      → usableBits (g .query) sets (getD nodes (p .0) 0) (getD nodes (p .1) 0) ≡ usableIn g p
+  unfolding usableIn usableAt allIn
   usable-in sets nodes p e f =
-      rw (
-        e,
-        f,
-        node-word (orderNodes g) nodes-few (p .0),
-        node-word (orderNodes g) nodes-few (p .1),
-        usable-word (g .query) (g .sets) sets-few numbers (tablesAt (orderNodes g) (p .0)) (tablesAt (orderNodes g) (p .1)) (under-below (p .0))
-            (under-below (p .1)),
-        within-word (g .query) (g .sets) sets-few numbers (tablesAt (orderNodes g) (p .0)) (under-below (p .0)) (usableAt g p) (usable-in-numbers g p),
-        within-word (g .query) (g .sets) sets-few numbers (tablesAt (orderNodes g) (p .1)) (under-below (p .1)) (usableAt g p) (usable-in-numbers g p),
-      )
+      rw (e, f, node-word (orderNodes g) nodes-few (p .0), node-word (orderNodes g) nodes-few (p .1))
+      (usable-sides (g .query) (g .sets) sets-few numbers (tablesAt (orderNodes g) (p .0)) (tablesAt (orderNodes g) (p .1)) (under-below (p .0))
+      (under-below (p .1)))
 
 -- ---- kinds
 
@@ -185,7 +189,7 @@ module _ (q : Query) where
   condition-is C n = word-is (conditionBits q C) C (λ k. (λ h. condition-elim q C k h .0, λ m. condition-intro q C k m (number-elim q k (n k m))))
 
   names-is : (C : List ℕ) → ((k : ℕ) → k isIn C → k isIn conditionNumbers q) → namedBits q (bitsOf C) ≡ bitsOf (wordTables (namedBy q C))
-  names-is C n = ap (namedBits q) (sym (condition-is C n)) ∙ named-within q C (λ k m. number-elim q k (n k m))
+  names-is C n = ap (namedBits q) (sym (condition-is C n)) ∙ named-word q C
 
   no-names : bitsOf (wordTables (namedBy q [])) ≡ 0
   unfolding namedBy wordTables keep bitsOf flatMap
@@ -227,7 +231,7 @@ module _ (g : Ground) where
   planned-count = length-map (g .order) (planned g)
 
   -- the same, of the sets and the nodes that the code holds
-  pub planned-in : Proper (g .query) (g .sets) → tableCount (g .query) ≤ 8 → length (g .query .conditions) ≤ 64 → length (g .order) ≤ 7
+  pub planned-in : Proper (g .query) (g .sets) → tableCount (g .query) ≤ mostTables → length (g .query .conditions) ≤ mostConditions → length (g .order) ≤ mostPairs
       → (sets nodes : List ℕ) (p : Pair) → sets ≡ setWords (g .sets) → nodes ≡ nodeWords (orderNodes g)
       → plannedBits (g .query) sets nodes p ≡ joinBits (g .query) (planned g p)
   unfolding plannedBits

@@ -6,6 +6,7 @@ use Prim.Native.Nat.{ℕ}
 use lib.Bits.{bitAnd, bitOr}
 use lib.Dec.{eqb}
 use lib.ListN.{getD}
+use Rattle.cells.specs.Limits.{mostTables}
 use Rattle.cells.specs.Choice.{if_then_else_}
 use Rattle.cells.specs.declared.condition.Condition.{Condition}
 use Rattle.cells.specs.declared.condition.Side.{Side}
@@ -23,7 +24,7 @@ use Rattle.plan.specs.declared.pairs.Usable.{Usable}
 
 -- the conditions that are in the set of every one of these tables
 unfoldable pub commonBits : List ℕ → ℕ → ℕ
-commonBits sets tables = meetTo (λ t. everyUnless (hasBit tables t) (getD sets t 0)) 8
+commonBits sets tables = meetTo (λ t. everyUnless (hasBit tables t) (getD sets t 0)) mostTables
 
 -- whether a condition is a C line that names a table of each of two sets
 unfoldable pub betweenBits : ℕ → Side → ℕ → ℕ → Bool
@@ -40,15 +41,15 @@ crossingBits q s l = bitsOf (keep (λ k. crossesBits (conditionAt q k) s l) (con
 unfoldable pub withinBits : ℕ → ℕ → Bool
 withinBits s t = eqb (bitAnd s t) s
 
--- a pair's usable conditions, given the sets, and those of them that are in the sets of both its sides
+-- the usable conditions of two sides, given the sets, and whether all of them are in the sets of the one, and of the other
 unfoldable pub usableWord : Query → List ℕ → ℕ → ℕ → ℕ
 usableWord q sets s l = bitAnd (crossingBits q s l) (bitOr (commonBits sets s) (commonBits sets l))
 
-unfoldable pub usableBits : Query → List ℕ → List ℕ → Pair → Usable
-usableBits q sets nodes p = record {
-  conditions = usableWord q sets (getD nodes (p .0) 0) (getD nodes (p .1) 0);
-  left = withinBits (usableWord q sets (getD nodes (p .0) 0) (getD nodes (p .1) 0)) (commonBits sets (getD nodes (p .0) 0));
-  right = withinBits (usableWord q sets (getD nodes (p .0) 0) (getD nodes (p .1) 0)) (commonBits sets (getD nodes (p .1) 0));
+unfoldable pub usableBits : Query → List ℕ → ℕ → ℕ → Usable
+usableBits q sets s l = record {
+  conditions = usableWord q sets s l;
+  left = withinBits (usableWord q sets s l) (commonBits sets s);
+  right = withinBits (usableWord q sets s l) (commonBits sets l);
 }
 
 -- the same of a pair of the order
@@ -74,4 +75,4 @@ pairedBits q p u =
 
 -- how a pair is joined, of its usable conditions
 unfoldable pub plannedBits : Query → List ℕ → List ℕ → Pair → BitJoin
-plannedBits q sets nodes p = pairedBits q p (usableBits q sets nodes p)
+plannedBits q sets nodes p = pairedBits q p (usableBits q sets (getD nodes (p .0) 0) (getD nodes (p .1) 0))

@@ -1,27 +1,24 @@
 -- The plan's tree of an admitted order: its shape, that it fits the blanking sets, what is applied; and that with closed
 -- sets the usable conditions of every pair fit a kind. Assumes nothing.
-use mathlib.Core.Path.{_≡_, refl, sym, ap, ap₂, _∙_, subst}
+use mathlib.Core.Path.{_≡_, refl, ap₂, subst}
 use mathlib.Core.Logic.{_⊎_, inl, inr, ⊎-elim, _↔_, by-cases}
-use mathlib.Core.Bool.{Bool, true, false, not, _&&_, _||_}
-use mathlib.Core.List.{List, [], _∷_, _++_, map}
+use mathlib.Core.Bool.{Bool, true, false, _&&_, _||_}
+use mathlib.Core.List.{List, [], _∷_, map}
 use Prim.Native.Nat.{ℕ, _<_}
-use lib.Dec.{T, T-not, not-T}
-use lib.ListN.{length}
+use lib.Dec.{T}
 use mir.Facts.{and-yes, or-yes}
 use Rattle.cells.specs.Condition.{namesOf}
-use Rattle.rows.specs.Lists.{all, any, keep, has}
+use Rattle.rows.specs.Lists.{all, has}
 use Rattle.rows.specs.ListLaws.{_isIn_, here, there, decT, or-left, or-right, all-elim, all-intro, keep-elim, has-elim, has-intro, Includes}
-use Rattle.rows.specs.Trees.{Database, Tree, leaf, join}
+use Rattle.rows.specs.Trees.{Database, Tree, join}
 use Rattle.rows.specs.Shapes.{Lawful, BlanksLeft, BlanksRight, HasTable, Shaped}
-use Rattle.rows.specs.Sets.{Takes, Applied, Closed, Fits}
-use Rattle.rows.specs.declared.kind.Kind.the-variants.{Inner, Outer, Product}
+use Rattle.rows.specs.Sets.{Applied, Closed, Fits}
 use Rattle.plan.specs.Report.{Join, Pair, Query, tableCount, conditionNumbers, conditionAt, joinPairs, orderOr, joinOrder}
-use Rattle.plan.specs.Nodes.{tablesAt, treeAt, treeOf, nodesOf, treesOf, lastTree}
-use Rattle.plan.specs.Sets.{Sets, setOf, setsBy, emptySets}
+use Rattle.plan.specs.Nodes.{tablesAt, treeOf}
+use Rattle.plan.specs.Sets.{Sets, setOf}
 use Rattle.plan.specs.Plan.{Ground, crosses, inEvery, usable, paired, fitsKind, orderNodes, usableAt, allIn, pairFits, planned, plannedJoins, planTrees, planTree, pairSets, appliedSets}
 use Rattle.plan.specs.Questions.{wellBuilt, noneOrBuilt, question5, question9, kindsFit}
 use Rattle.plan.specs.NodeLaws.{SidesAre, Matched, noPair, nextPair}
-use Rattle.plan.specs.SetLaws.{Numbered}
 use Rattle.plan.specs.BuiltLaws.{each-node, nodes-alike, tables-exist, of-last, last-has-every, sets-applied}
 use Rattle.plan.specs.TiedLaws.{crosses-across, crosses-inside, Tied, nodes-shaped}
 

@@ -1,26 +1,26 @@
 -- The query's tree of a report that questions 5 to 8 do not turn down: its shape, that it is simplified, and that the blanking sets
 -- are closed. Assumes nothing.
-use mathlib.Core.Path.{_≡_, refl, sym, ap, _∙_, subst}
-use mathlib.Core.Logic.{_⊎_, inl, inr, ⊎-elim, _↔_, by-cases}
-use mathlib.Core.Bool.{Bool, true, false, not, _&&_}
+use mathlib.Core.Path.{_≡_, refl, _∙_, subst}
+use mathlib.Core.Logic.{inl, inr, _↔_, by-cases}
+use mathlib.Core.Bool.{Bool, not, _&&_}
 use mathlib.Core.List.{List, [], _∷_, _++_, map}
-use Prim.Native.Nat.{ℕ, _<_, _≤_}
+use Prim.Native.Nat.{ℕ, _<_}
 use native.Mathlib.Decide.{decLt}
 use native.Mathlib.Omega.{arith}
 use lib.Dec.{T, leb, T-not}
-use lib.ListN.{length, getD, length-map, List·getD-eq-default}
+use lib.ListN.{length, length-map, List·getD-eq-default}
 use mir.Facts.{and-yes, yes-and}
+use Rattle.cells.specs.Limits.{mostWritten}
 use Rattle.cells.specs.Condition.{namesOf}
-use Rattle.rows.specs.Lists.{range, all, any, has}
-use Rattle.rows.specs.ListLaws.{_isIn_, here, there, append-left, append-right, append-elim, all-elim, any-elim, any-intro, has-intro, flatMap-intro, Includes, length-range}
+use Rattle.rows.specs.Lists.{range, any, has}
+use Rattle.rows.specs.ListLaws.{_isIn_, here, there, append-left, append-right, append-elim, all-elim, any-elim, any-intro, has-intro, flatMap-intro, length-range}
 use Rattle.rows.specs.Trees.{Database, Tree, leaf, join, tablesUnder}
 use Rattle.rows.specs.Shapes.{Lawful, BlanksLeft, BlanksRight, HasTable, Shaped, table-listed}
 use Rattle.rows.specs.Sets.{Applied, applied-table, applied-fits, Closed, Fits}
-use Rattle.rows.specs.Simplified.{IsOuter, RightOfOuter, NamesFree, Simplified, sets-closed}
-use Rattle.rows.specs.declared.kind.Kind.{Kind}
+use Rattle.rows.specs.Simplified.{RightOfOuter, Simplified, sets-closed}
 use Rattle.rows.specs.declared.kind.Kind.the-variants.{Inner, Outer, Product}
-use Rattle.plan.specs.Report.{Join, Pair, Query, tableCount, tableNumbers, conditionAt, namedBy, joinPairs}
-use Rattle.plan.specs.Nodes.{tablesAt, treeAt, treeOf, joinNodes, joinTrees, joinTree, lastTree, treesOf, nodesOf}
+use Rattle.plan.specs.Report.{Join, Query, tableCount, tableNumbers, conditionAt, namedBy, joinPairs}
+use Rattle.plan.specs.Nodes.{tablesAt, treeAt, treeOf, joinNodes, joinTrees, joinTree}
 use Rattle.plan.specs.Sets.{Sets, setOf, blanksLeft, blanksRight, setsAfter, setsBy, emptySets, blankingSets}
 use Rattle.plan.specs.Plan.{crosses}
 use Rattle.plan.specs.Questions.{question5, question6, question7, question8, conditionFits, rightSides, namesRightSide, wellBuilt}
@@ -113,7 +113,7 @@ module _ (q : Query) (ok : Accepted q) where
 
       six : (c : ℕ) → c isIn j .conditions → T (conditionFits q ts (conditionAt q c))
       six c n = all-elim (λ k. conditionFits q ts (conditionAt q k)) (j .conditions)
-          (all-elim _ (q .joins) (and-yes (leb (length (q .conditions)) 32) _ (ok .six) .1) j m) c n
+          (all-elim _ (q .joins) (and-yes (leb (length (q .conditions)) mostWritten) _ (ok .six) .1) j m) c n
 
       seven : T (any (λ k. crosses (conditionAt q k) (tablesAt (joinNodes q) (j .left)) (tablesAt (joinNodes q) (j .right))) (j .conditions))
       seven = all-elim _ (q .joins) (ok .seven) j m

@@ -1,9 +1,10 @@
 -- Questions 5 to 10, put to the query: document 01, "Questions, in order". Assumes nothing.
-use mathlib.Core.Bool.{Bool, true, false, not, _&&_, _||_}
+use mathlib.Core.Bool.{Bool, true, not, _&&_}
 use mathlib.Core.List.{List, [], _∷_, _++_}
 use Prim.Native.Nat.{ℕ, suc}
 use lib.Dec.{eqb, leb, ltb}
 use lib.ListN.{length, getD}
+use Rattle.cells.specs.Limits.{mostWritten}
 use Rattle.cells.specs.declared.condition.Condition.{Condition}
 use Rattle.cells.specs.declared.condition.Side.{Side}
 use Rattle.cells.specs.declared.condition.Side.the-variants.{Column, Constant}
@@ -67,7 +68,7 @@ conditionFits q ts k = columnExists q ts (k .table) (k .column) && sideExists q 
 -- 6: "Are there at most 32 conditions, each naming existing columns of tables under its join, C lines two different tables?"
 unfoldable pub question6 : Query → Bool
 question6 q =
-    leb (length (q .conditions)) 32
+    leb (length (q .conditions)) mostWritten
     && all
     (λ (j : Join). all
     (λ k. conditionFits q (tablesAt (joinNodes q) (j .left) ++ tablesAt (joinNodes q) (j .right)) (conditionAt q k)) (j .conditions))

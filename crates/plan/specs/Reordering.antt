@@ -1,21 +1,20 @@
 -- Demand 3 over a query: for an accepted query, an admitted order and every list of blanking steps that document 01 allows, the run
 -- of the plan gives the rows of the tree read directly. Assumes nothing.
-use mathlib.Core.Path.{_≡_, refl, sym, subst}
-use mathlib.Core.Logic.{_↔_, _⊎_, inl, inr, by-cases}
+use mathlib.Core.Path.{_≡_, refl, subst}
+use mathlib.Core.Logic.{_↔_, inl, inr, by-cases}
 use mathlib.Core.Bool.{not}
 use mathlib.Core.List.{List}
 use Prim.Native.Nat.{ℕ, _<_}
 use lib.Dec.{T, not-T}
 use Rattle.cells.specs.Condition.{namesOf}
-use Rattle.rows.specs.Lists.{keep, has}
+use Rattle.rows.specs.Lists.{has}
 use Rattle.rows.specs.ListLaws.{_isIn_, decT, keep-elim, keep-intro, has-elim, has-intro}
 use Rattle.rows.specs.Rows.{ordered}
 use Rattle.rows.specs.Trees.{Database, rowsOf}
 use Rattle.rows.specs.Nullification.{Blanking, planRows}
-use Rattle.rows.specs.Shapes.{Lawful, HasTable}
-use Rattle.rows.specs.Sets.{Applied}
+use Rattle.rows.specs.Shapes.{Lawful}
 use Rattle.rows.specs.Sound.{applied-true}
-use Rattle.rows.specs.Reordering.{Always, Reorders, reordered}
+use Rattle.rows.specs.Reordering.{Reorders, reordered}
 use Rattle.plan.specs.Report.{Query, tableCount, conditionAt, joinOrder}
 use Rattle.plan.specs.Nodes.{joinTree}
 use Rattle.plan.specs.Sets.{Sets, setOf, blankingSets}

@@ -1,5 +1,5 @@
 -- What a report says: document 01, "Report text". Assumes nothing.
-use mathlib.Core.Bool.{Bool, true, false}
+use mathlib.Core.Bool.{true}
 use mathlib.Core.List.{List, [], _∷_, map, flatMap}
 use Prim.Native.Nat.{ℕ}
 use lib.IntN.{ℤ, pos}
@@ -62,9 +62,9 @@ tableNumbers q = range 0 (tableCount q)
 unfoldable pub conditionNumbers : Query → List ℕ
 conditionNumbers q = range 0 (length (q .conditions))
 
--- what stands for a condition that there is not: no operator, so that it is true of nothing
+-- what stands for a condition that there is not: no operator, so that it is true of nothing, and a number that no table has
 unfoldable pub noCondition : Condition
-noCondition = record { table = 0; column = 0; operator = 0; side = Constant (pos 0) }
+noCondition = record { table = 65535; column = 0; operator = 0; side = Constant (pos 0) }
 
 -- the condition of a number
 unfoldable pub conditionAt : Query → ℕ → Condition

@@ -5,6 +5,7 @@ use Prim.Native.Nat.{ℕ, suc, _+_, _-_, _<_}
 use native.Mathlib.Omega.{arith}
 use lib.ListN.{length, getD, set, replicate, length-append, length-set, List·getD-append}
 use lib.Seq.{set-append-left, append-snoc}
+use Rattle.cells.specs.Limits.{mostSteps}
 use Rattle.plan.specs.Report.{Join}
 use Rattle.plan.specs.Plan.{Ground, plannedJoins, blankings}
 use Rattle.plan.specs.Steps.{pairStep, blankingStep, bestMatchStep, zeroStep, stepsOf}
@@ -23,9 +24,9 @@ rows-listed Z W i n h =
     let b : i < length (Z ++ W) = omega (arith, length-append Z W) in
     rw (
       e,
-      List·getD-append (Z ++ W) (replicate (16 - length (Z ++ W)) zeroStep) zeroStep i b,
+      List·getD-append (Z ++ W) (replicate (mostSteps - length (Z ++ W)) zeroStep) zeroStep i b,
       List·getD-append Z W zeroStep i h,
-      set-append-left (Z ++ W) (replicate (16 - length (Z ++ W)) zeroStep) i (rowed n (getD Z i zeroStep)) b,
+      set-append-left (Z ++ W) (replicate (mostSteps - length (Z ++ W)) zeroStep) i (rowed n (getD Z i zeroStep)) b,
       set-append-left Z W i (rowed n (getD Z i zeroStep)) h,
     )
 

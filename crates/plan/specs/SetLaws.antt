@@ -1,28 +1,25 @@
 -- Laws of sets: the sets that document 01's rule gives, join after join, are what the joins' tree has applied to its tables.
 -- Assumes nothing.
-use mathlib.Core.Path.{_≡_, refl, sym, ap, _∙_, subst}
-use mathlib.Core.Logic.{_≢_, _⊎_, inl, inr, ⊎-elim, ⊎-map, by-cases, _↔_}
-use mathlib.Core.Bool.{Bool, true, false, not, _&&_, _||_}
-use mathlib.Core.List.{List, [], _∷_, _++_}
+use mathlib.Core.Path.{_≡_, sym, ap, _∙_, subst}
+use mathlib.Core.Logic.{_≢_, _⊎_, inl, inr, ⊎-elim, ⊎-map, _↔_}
+use mathlib.Core.Bool.{not, _&&_, _||_}
+use mathlib.Core.List.{List, [], _∷_}
 use Prim.Native.Nat.{ℕ, suc, _<_}
-use native.Mathlib.Decide.{ℕ-discrete}
 use native.Mathlib.Omega.{arith}
-use lib.Dec.{T, T-not, not-T}
-use lib.ListN.{length}
+use lib.Dec.{T, T-not}
 use mir.Facts.{and-yes, yes-and, or-yes}
 use Rattle.cells.specs.Choice.{if_then_else_}
 use Rattle.cells.specs.Condition.{namesOf}
-use Rattle.rows.specs.Lists.{any, keep, has}
-use Rattle.rows.specs.ListLaws.{_isIn_, here, there, isIn-cast, decT, or-left, or-right, if-intro, if-elim, any-elim, any-intro, keep-elim, keep-intro, has-intro, has-elim, flatMap-intro, flatMap-elim, range-elim, getD-range}
-use Rattle.rows.specs.Trees.{Database, Tree, leaf, join}
+use Rattle.rows.specs.Lists.{any, has}
+use Rattle.rows.specs.ListLaws.{_isIn_, there, or-left, or-right, if-intro, if-elim, any-elim, any-intro, keep-elim, keep-intro, has-intro, has-elim, flatMap-intro, flatMap-elim, getD-range}
+use Rattle.rows.specs.Trees.{Database, Tree, join}
 use Rattle.rows.specs.Shapes.{Lawful, BlanksLeft, BlanksRight, HasTable, Disjoint}
-use Rattle.rows.specs.Sets.{Takes, Applied, inLeft, inRight, own, fromRight, fromLeft, applied-table}
+use Rattle.rows.specs.Sets.{Applied, inLeft, inRight, own, fromRight, fromLeft, applied-table}
 use Rattle.rows.specs.declared.kind.Kind.{Kind}
 use Rattle.rows.specs.declared.kind.Kind.the-variants.{Inner, Outer, Product}
 use Rattle.plan.specs.Report.{Join, Query, tableCount, tableNumbers, conditionNumbers, conditionAt, namedBy}
 use Rattle.plan.specs.Nodes.{tablesAt, treeAt, treeOf}
-use Rattle.plan.specs.Sets.{Sets, setOf, blanksLeft, blanksRight, taken, setAfter, setsAfter, setsBy, emptySets}
-use Rattle.plan.specs.NodeLaws.{Alike}
+use Rattle.plan.specs.Sets.{Sets, setOf, blanksLeft, blanksRight, taken, setAfter, setsAfter, setsBy}
 use Rattle.plan.specs.StageLaws.{Stages, allMade, makes, Open, OpenApart, apart-next, open-elim, stages-count}
 
 -- which sides a join blanks

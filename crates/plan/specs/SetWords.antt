@@ -9,6 +9,7 @@ use lib.Bits.{bitAnd, bitOr, or-zero-r}
 use lib.Dec.{T, ltb, not-T}
 use lib.ListN.{length, getD, length-map, List·getD-eq-default}
 use mir.Facts.{ltb-yes, ltb-no, yes-ltb}
+use Rattle.cells.specs.Limits.{mostTables, mostNodes}
 use Rattle.cells.specs.Choice.{if_then_else_}
 use Rattle.cells.specs.BoolLaws.{same-test}
 use Rattle.cells.specs.Condition.{namesOf}
@@ -18,7 +19,7 @@ use Rattle.plan.specs.Report.{Join, Query, tableCount, tableNumbers, con
 use Rattle.plan.specs.Nodes.{tablesAt}
 use Rattle.plan.specs.Sets.{Sets, setOf, blanksLeft, blanksRight, taken, setAfter, setsAfter, emptySets}
 use Rattle.plan.specs.SetLaws.{set-after, taken-elim, taken-intro, Gains}
-use Rattle.plan.specs.Bits.{hasBit}
+use Rattle.plan.specs.Bits.{wordSize, hasBit}
 use Rattle.plan.specs.Steps.{bitsOf}
 use Rattle.plan.specs.BitLaws.{has-bits, has-none, bit-elim, bit-intro, word-is}
 use Rattle.plan.specs.Words.{onlyIf, wordTables, wordsTo, setWords, nodeWords}
@@ -42,14 +43,14 @@ words-at f n i h = by-cases (decT (ltb i n)) (λ l. tab-at (λ (k : ℕ). bitsOf
     List·getD-eq-default (map (λ k. bitsOf (f k)) (range 0 n)) 0 (omega (arith, tab-length (λ (k : ℕ). bitsOf (f k)) n)) ∙ sym (ap bitsOf (h b)))
 
 -- the set of a table
-pub set-word : (S : Sets) → length S ≤ 8 → (t : ℕ) → getD (setWords S) t 0 ≡ bitsOf (setOf S t)
+pub set-word : (S : Sets) → length S ≤ mostTables → (t : ℕ) → getD (setWords S) t 0 ≡ bitsOf (setOf S t)
 unfolding setWords setOf
-set-word S h t = words-at (setOf S) 8 t (λ b. List·getD-eq-default S [] (omega arith))
+set-word S h t = words-at (setOf S) mostTables t (λ b. List·getD-eq-default S [] (omega arith))
 
 -- the tables under a node
-pub node-word : (nodes : List (List ℕ)) → length nodes ≤ 15 → (i : ℕ) → getD (nodeWords nodes) i 0 ≡ bitsOf (tablesAt nodes i)
+pub node-word : (nodes : List (List ℕ)) → length nodes ≤ mostNodes → (i : ℕ) → getD (nodeWords nodes) i 0 ≡ bitsOf (tablesAt nodes i)
 unfolding nodeWords tablesAt
-node-word nodes h i = words-at (tablesAt nodes) 15 i (λ b. List·getD-eq-default nodes [] (omega arith))
+node-word nodes h i = words-at (tablesAt nodes) mostNodes i (λ b. List·getD-eq-default nodes [] (omega arith))
 
 -- ---- the set rule
 
@@ -116,7 +117,7 @@ module _ (q : Query) where
       number t k m = after-numbered (tablesAt nodes (j .left)) (tablesAt nodes (j .right)) j S p t k m
 
   -- what a table has after it took from the other side
-  module _ (C : List ℕ) (S : Sets) (small : length S ≤ 8) (p : Proper q S) (other : List ℕ) (own : List ℕ)
+  module _ (C : List ℕ) (S : Sets) (small : length S ≤ mostTables) (p : Proper q S) (other : List ℕ) (own : List ℕ)
       (fair : (k : ℕ) → k isIn own → k isIn conditionNumbers q) where
     abbrev names : ℕ
     names = bitsOf (wordTables (namedBy q C))
@@ -124,10 +125,10 @@ module _ (q : Query) where
     gather-elim : (k : ℕ) → T (hasBit (gatherBits (setWords S) (bitAnd names (bitsOf other))) k) → (k isIn conditionNumbers q) × Gains q C S other k
     unfolding gatherBits wordTables namedBy
     gather-elim k t =
-        let (u, l, x) = union-elim (λ (t : ℕ). onlyIf (hasBit (bitAnd names (bitsOf other)) t) (getD (setWords S) t 0)) 8 k t in
+        let (u, l, x) = union-elim (λ (t : ℕ). onlyIf (hasBit (bitAnd names (bitsOf other)) t) (getD (setWords S) t 0)) mostTables k t in
         let (a, b) = only-elim (hasBit (bitAnd names (bitsOf other)) u) (getD (setWords S) u 0) k x in
         let (n, o) = and-elim names (bitsOf other) u a in
-        let (m, r) = keep-elim (λ (t : ℕ). ltb t 64) (namedBy q C) (bit-elim (wordTables (namedBy q C)) u n) in
+        let (m, r) = keep-elim (λ (t : ℕ). ltb t wordSize) (namedBy q C) (bit-elim (wordTables (namedBy q C)) u n) in
         let (d, e, f) = flatMap-elim (λ (c : ℕ). namesOf (conditionAt q c)) C m in
         let z : k isIn setOf S u = bit-elim (setOf S u) k (subst (λ (w : ℕ). T (hasBit w k)) (set-word S small u) b) in
         (p .numbered u k z, inr (d, u, e, f, bit-elim other u o, z))
@@ -137,11 +138,11 @@ module _ (q : Query) where
     unfolding gatherBits wordTables namedBy
     gather-intro k d u e f o z =
         let b : u < length S = there-is u z in
-        union-intro (λ (t : ℕ). onlyIf (hasBit (bitAnd names (bitsOf other)) t) (getD (setWords S) t 0)) 8 k u (omega arith)
+        union-intro (λ (t : ℕ). onlyIf (hasBit (bitAnd names (bitsOf other)) t) (getD (setWords S) t 0)) mostTables k u (omega arith)
         (only-intro (hasBit (bitAnd names (bitsOf other)) u) (getD (setWords S) u 0) k
         (and-intro names (bitsOf other) u
-        (bit-intro (keep-intro (λ (t : ℕ). ltb t 64) (flatMap-intro (λ (c : ℕ). namesOf (conditionAt q c)) e f)
-        (yes-ltb {a = u} {b = 64} (omega arith)))) (bit-intro o))
+        (bit-intro (keep-intro (λ (t : ℕ). ltb t wordSize) (flatMap-intro (λ (c : ℕ). namesOf (conditionAt q c)) e f)
+        (yes-ltb {a = u} {b = wordSize} (omega arith)))) (bit-intro o))
         (subst (λ (w : ℕ). T (hasBit w k)) (sym (set-word S small u)) (bit-intro z)))
       where
         there-is : (u : ℕ) → k isIn setOf S u → u < length S
@@ -179,8 +180,8 @@ module _ (q : Query) where
   test-word true ts t = has-bits ts t
   test-word false ts t = has-none t
 
-  module _ (nodes : List (List ℕ)) (few : length nodes ≤ 15) (below : (i t : ℕ) → t isIn tablesAt nodes i → t < tableCount q)
-      (small : tableCount q ≤ 8) (j : Join) (S : Sets) (p : Proper q S) where
+  module _ (nodes : List (List ℕ)) (few : length nodes ≤ mostNodes) (below : (i t : ℕ) → t isIn tablesAt nodes i → t < tableCount q)
+      (small : tableCount q ≤ mostTables) (j : Join) (S : Sets) (p : Proper q S) where
     abbrev left : List ℕ
     left = tablesAt nodes (j .left)
 
@@ -191,7 +192,7 @@ module _ (q : Query) where
     gain other = bitOr (conditionBits q (j .conditions))
         (gatherBits (setWords S) (bitAnd (bitsOf (wordTables (namedBy q (j .conditions)))) (bitsOf other)))
 
-    few-sets : length S ≤ 8
+    few-sets : length S ≤ mostTables
     few-sets = omega (arith, p .each)
 
     -- a table of the query
@@ -241,7 +242,7 @@ module _ (q : Query) where
         (gatherBits (setWords S) (bitAnd (bitsOf (wordTables (namedBy q (j .conditions)))) (getD (nodeWords nodes) (j .right) 0))))
         (bitOr (conditionBits q (j .conditions))
         (gatherBits (setWords S) (bitAnd (bitsOf (wordTables (namedBy q (j .conditions)))) (getD (nodeWords nodes) (j .left) 0)))) t))
-        (λ t. bitsOf (setOf (setsAfter q nodes j S) t)) 0 8
+        (λ t. bitsOf (setOf (setsAfter q nodes j S) t)) 0 mostTables
         (λ t a b. rw (node-word nodes few (j .left), node-word nodes few (j .right), set-word S few-sets t) (each-table t))
       where
         each-table : (t : ℕ) → bitOr (bitsOf (setOf S t))

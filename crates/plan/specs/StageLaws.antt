@@ -1,25 +1,25 @@
 -- Joins made one after another, each of two nodes that are no side yet (questions 5 and 9): such nodes have no table in common,
 -- every table is in one of them, and at the end the last node alone is left, which so has every table.
 -- Assumes nothing.
-use mathlib.Core.Path.{_≡_, refl, sym, ap, _∙_, subst}
+use mathlib.Core.Path.{_≡_, refl, sym, _∙_, subst}
 use mathlib.Core.Logic.{_≢_, _⊎_, inl, inr, ⊎-elim, by-cases}
-use mathlib.Core.Bool.{Bool, true, false, not, _&&_}
-use mathlib.Core.List.{List, [], _∷_, _++_, map}
+use mathlib.Core.Bool.{not, _&&_}
+use mathlib.Core.List.{List, [], _∷_, _++_}
 use Prim.Native.Nat.{ℕ, zero, suc, _+_, _*_, _-_, _≤_, _<_}
 use native.Mathlib.Decide.{ℕ-discrete}
 use native.Mathlib.Omega.{arith}
 use lib.Dec.{T, eqb, T-not, not-T}
-use lib.ListN.{length, getD, length-append, List·getD-append}
+use lib.ListN.{length}
 use mir.Facts.{and-yes, eqb-yes, yes-eqb}
 use Rattle.cells.specs.Choice.{if_then_else_}
-use Rattle.rows.specs.Lists.{range, has, keep}
+use Rattle.rows.specs.Lists.{has, keep}
 use Rattle.rows.specs.ListLaws.{_isIn_, here, there, isIn-cast, decT, if-intro, EachPair, eachNil, eachCons, each-keep, keep-elim, has-intro, has-elim}
 use Rattle.rows.specs.Trees.{Tree, leaf, join}
 use Rattle.rows.specs.Shapes.{HasTable, Disjoint}
 use Rattle.plan.specs.Report.{Join, Pair}
 use Rattle.plan.specs.Nodes.{grown, treeAt, treeOf}
 use Rattle.plan.specs.Questions.{lowerSides, sidesOf, noneTwice}
-use Rattle.plan.specs.NodeLaws.{SidesAre, Matched, noPair, nextPair, lower-elim, longer, grown-old, grown-next}
+use Rattle.plan.specs.NodeLaws.{Matched, noPair, nextPair, lower-elim, longer, grown-old, grown-next}
 
 -- ---- a list of different numbers below n that has n elements has all of them
 

@@ -1,14 +1,14 @@
 -- Every list of blanking steps that document 01 allows after the pairs: "The plan", second paragraph. The engine's own list is one.
 -- Assumes nothing.
-use mathlib.Core.Path.{_≡_, refl, sym, ap, subst}
+use mathlib.Core.Path.{_≡_, refl, sym, subst}
 use mathlib.Core.Logic.{_≢_}
 use mathlib.Core.Bool.{Bool, true, false, _&&_}
 use mathlib.Core.List.{List, [], _∷_, map, nil≢cons}
 use Prim.Native.Nat.{ℕ, _<_}
 use lib.Dec.{T, eqb, ltb}
 use mir.Facts.{and-yes, eqb-yes, ltb-yes}
-use Rattle.rows.specs.Lists.{range, all, any, keep, has}
-use Rattle.rows.specs.ListLaws.{_isIn_, here, there, all-elim, any-elim, has-elim, keep-elim, keep-intro, map-intro, map-elim, range-intro, range-elim}
+use Rattle.rows.specs.Lists.{range, all, any, has}
+use Rattle.rows.specs.ListLaws.{_isIn_, here, all-elim, any-elim, has-elim, keep-elim, keep-intro, map-intro, map-elim, range-intro, range-elim}
 use Rattle.rows.specs.Nullification.{Blanking}
 use Rattle.plan.specs.Report.{tableCount, tableNumbers}
 use Rattle.plan.specs.Plan.{Ground, missing, asks, blankings}

@@ -5,6 +5,7 @@ use Prim.Native.Nat.{ℕ, zero, suc, _+_, _-_, _%_}
 use lib.Bits.{bitAnd, bitXor}
 use lib.Dec.{eqb}
 use lib.ListN.{length, getD, set, replicate}
+use Rattle.cells.specs.Limits.{mostSteps}
 use Rattle.cells.specs.Choice.{if_then_else_}
 use Rattle.plan.specs.Plan.{Ground, planned}
 use Rattle.plan.specs.Steps.{kindNumber, pairStep, zeroStep}
@@ -14,7 +15,7 @@ use Rattle.plan.specs.declared.steps.StepList.{StepList}
 
 -- these steps, at most sixteen, and then zero steps
 unfoldable pub listed : List Step → StepList
-listed l = record { steps = l ++ replicate (16 - length l) zeroStep; count = length l }
+listed l = record { steps = l ++ replicate (mostSteps - length l) zeroStep; count = length l }
 
 -- a pair's step
 unfoldable pub stepBits : BitJoin → Step

@@ -1,7 +1,6 @@
 -- The query that the code's structs hold. Assumes nothing.
-use mathlib.Core.List.{List, map}
-use Prim.Native.Nat.{ℕ}
-use lib.ListN.{take, getD}
+use mathlib.Core.List.{map}
+use lib.ListN.{take}
 use Rattle.rows.specs.Lists.{range}
 use Rattle.plan.specs.Report.{Join, Pair, Query}
 use Rattle.plan.specs.declared.query.StoredJoin.{StoredJoin}

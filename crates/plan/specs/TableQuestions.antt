@@ -1,10 +1,11 @@
 -- Questions 3 and 4, put to the tables: document 01, "Questions, in order". Assumes nothing.
-use mathlib.Core.Bool.{Bool, true, false, _&&_}
+use mathlib.Core.Bool.{Bool, _&&_}
 use mathlib.Core.List.{List, [], _∷_}
 use Prim.Native.Nat.{ℕ, _+_}
 use lib.Dec.{eqb, leb}
 use lib.IntN.{ℤ}
 use lib.ListN.{length}
+use Rattle.cells.specs.Limits.{mostTables, mostColumns, mostRows, mostCells}
 use Rattle.rows.specs.Lists.{all}
 use Rattle.plan.specs.Report.{Table, Report}
 
@@ -19,13 +20,13 @@ cellsInTables (t ∷ ts) = cellsInRows (t .rows) + cellsInTables ts
 
 -- "each of 1 to 8 columns and at most 256 rows"
 unfoldable pub tableFits : Table → Bool
-tableFits t = leb 1 (t .columns) && leb (t .columns) 8 && leb (length (t .rows)) 256
+tableFits t = leb 1 (t .columns) && leb (t .columns) mostColumns && leb (length (t .rows)) mostRows
 
 -- 3: "Are there 1 to 8 tables, each of 1 to 8 columns and at most 256 rows, and at most 4,096 cells written in all?"
 unfoldable pub question3 : Report → Bool
 question3 r =
-    leb 1 (length (r .tables)) && leb (length (r .tables)) 8 && all tableFits (r .tables)
-    && leb (cellsInTables (r .tables)) 4096
+    leb 1 (length (r .tables)) && leb (length (r .tables)) mostTables && all tableFits (r .tables)
+    && leb (cellsInTables (r .tables)) mostCells
 
 -- 4: "Has each D line as many cells as its table has columns?"
 unfoldable pub question4 : Report → Bool

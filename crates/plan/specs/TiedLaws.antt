@@ -1,9 +1,9 @@
 -- Joins whose sides are tied by their conditions: from the questions' tests to the shape that the theorem on joining orders asks
 -- of both trees. Assumes nothing.
-use mathlib.Core.Path.{_≡_, refl, sym, ap, _∙_, subst}
+use mathlib.Core.Path.{_≡_, refl, sym, subst}
 use mathlib.Core.Logic.{_⊎_, inl, inr, ⊎-elim, ⊎-map, _↔_}
-use mathlib.Core.Bool.{Bool, true, false, not, _&&_, _||_}
-use mathlib.Core.List.{List, [], _∷_, _++_, map}
+use mathlib.Core.Bool.{not, _&&_}
+use mathlib.Core.List.{List, [], _∷_}
 use Prim.Native.Nat.{ℕ, _<_}
 use lib.Dec.{T, eqb, ltb}
 use lib.ListN.{length, getD}
@@ -13,16 +13,16 @@ use Rattle.cells.specs.declared.condition.Condition.{Condition}
 use Rattle.cells.specs.declared.condition.Side.{Side}
 use Rattle.cells.specs.declared.condition.Side.the-variants.{Column, Constant}
 use Rattle.rows.specs.Lists.{has}
-use Rattle.rows.specs.ListLaws.{_isIn_, here, there, has-elim, append-elim}
-use Rattle.rows.specs.Trees.{Database, Tree, leaf, join}
-use Rattle.rows.specs.Shapes.{Lawful, BlanksRight, HasTable, Shape, Shaped}
+use Rattle.rows.specs.ListLaws.{_isIn_, here, there, has-elim}
+use Rattle.rows.specs.Trees.{Database, join}
+use Rattle.rows.specs.Shapes.{Lawful, BlanksRight, HasTable, Shaped}
 use Rattle.plan.specs.Report.{Join, Pair, Query, tableCount, conditionAt}
-use Rattle.plan.specs.Nodes.{tablesAt, nodesOf, treeAt, treeOf, treesOf, lastTree}
+use Rattle.plan.specs.Nodes.{tablesAt, nodesOf, treeAt, treeOf, treesOf}
 use Rattle.plan.specs.Plan.{between, crosses}
 use Rattle.plan.specs.Questions.{columnExists, sideExists, conditionFits, wellBuilt}
 use Rattle.plan.specs.NodeLaws.{Matched}
 use Rattle.plan.specs.SetLaws.{Numbered}
-use Rattle.plan.specs.BuiltLaws.{each-node, nodes-alike, of-last}
+use Rattle.plan.specs.BuiltLaws.{each-node, nodes-alike}
 
 -- ---- what the tests of a condition say of the tables that it names
 

@@ -6,6 +6,7 @@ use Prim.Native.Nat.{ℕ}
 use lib.Bits.{bitAnd, bitOr}
 use lib.Dec.{eqb}
 use lib.ListN.{getD, set}
+use Rattle.cells.specs.Limits.{mostNodes}
 use Rattle.rows.specs.Lists.{range}
 use Rattle.rows.specs.Trees.{Tree, leaf, tablesUnder}
 use Rattle.rows.specs.declared.kind.Kind.{Kind}
@@ -24,11 +25,11 @@ leafTrees n = map leaf (range 0 n)
 
 -- the tables of fifteen trees
 unfoldable pub underWords : List (Tree ℕ) → List ℕ
-underWords trees = wordsTo (λ i. tablesUnder (treeAt trees i)) 15
+underWords trees = wordsTo (λ i. tablesUnder (treeAt trees i)) mostNodes
 
 -- the tables of the right sides of their outer joins
 unfoldable pub rightWords : List (Tree ℕ) → List ℕ
-rightWords trees = wordsTo (λ i. rightSides (treeAt trees i)) 15
+rightWords trees = wordsTo (λ i. rightSides (treeAt trees i)) mostNodes
 
 unfoldable pub sidesWords : List (Tree ℕ) → Sides
 sidesWords trees = record { under = underWords trees; rights = rightWords trees }

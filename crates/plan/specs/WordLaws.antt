@@ -19,7 +19,7 @@ use Rattle.cells.specs.Choice.{if_then_else_}
 use Rattle.cells.specs.BoolLaws.{same-test}
 use Rattle.rows.specs.Lists.{range, keep, has}
 use Rattle.rows.specs.ListLaws.{has-intro, has-elim, or-left, or-right, range-intro, range-elim, keep-append, range-snoc, length-range, getD-range}
-use Rattle.plan.specs.Bits.{hasBit}
+use Rattle.plan.specs.Bits.{wordSize, hasBit}
 use Rattle.plan.specs.Steps.{bitsOf}
 use Rattle.plan.specs.BitLaws.{has-or, has-and, has-none, bits-append}
 use Rattle.plan.specs.Words.{onlyIf, unionTo, everyBit, meetTo, wordTables, tableBits}
@@ -27,8 +27,8 @@ use Rattle.plan.specs.Words.{onlyIf, unionTo, everyBit, meetTo, wordTabl
 -- ---- the code's numbers
 
 -- 1 shifted by a number below 64
-pub shifted-one : (k : ℕ) → k < 64 → 1 * 2 ^ k % 18446744073709551616 ≡ 2 ^ k
-shifted-one k h = eqb→eq (1 * 2 ^ k % 18446744073709551616) (2 ^ k) (at-below (λ i. eqb (1 * 2 ^ i % 18446744073709551616) (2 ^ i)) 64 tt k h)
+pub shifted-one : (k : ℕ) → k < wordSize → 1 * 2 ^ k % 18446744073709551616 ≡ 2 ^ k
+shifted-one k h = eqb→eq (1 * 2 ^ k % 18446744073709551616) (2 ^ k) (at-below (λ i. eqb (1 * 2 ^ i % 18446744073709551616) (2 ^ i)) wordSize tt k h)
 
 -- ---- the bits of words, as facts
 
@@ -88,9 +88,9 @@ module _ (f : ℕ → ℕ) where
       let (a, b) = and-elim (meetTo f n) (f n) k h in
       by-cases (ℕ-discrete i n) (λ e. subst (λ (m : ℕ). T (hasBit (f m) k)) (sym e) b) (λ e. meet-elim n k a i (omega arith))
 
-  pub meet-intro : (n k : ℕ) → k < 64 → ((i : ℕ) → i < n → T (hasBit (f i) k)) → T (hasBit (meetTo f n) k)
+  pub meet-intro : (n k : ℕ) → k < wordSize → ((i : ℕ) → i < n → T (hasBit (f i) k)) → T (hasBit (meetTo f n) k)
   unfolding meetTo everyBit hasBit
-  meet-intro zero k l h = at-below (λ (i : ℕ). hasBit 18446744073709551615 i) 64 tt k l
+  meet-intro zero k l h = at-below (λ (i : ℕ). hasBit 18446744073709551615 i) wordSize tt k l
   meet-intro (suc n) k l h = and-intro (meetTo f n) (f n) k (meet-intro n k l (λ i b. h i (omega arith))) (h n (omega arith))
 
 -- ---- kept numbers
@@ -121,13 +121,13 @@ keep-next p n = rw (range-next n, keep-append p (range 0 n) (n ∷ []))
     (bits-append (keep p (range 0 n)) (keep p (n ∷ [])) ∙ ap (bitOr (bitsOf (keep p (range 0 n)))) (keep-one p n))
 
 -- one table's word
-pub table-bits : (t : ℕ) → t < 64 → tableBits t ≡ 2 ^ t
+pub table-bits : (t : ℕ) → t < wordSize → tableBits t ≡ 2 ^ t
 unfolding tableBits wordTables keep bitsOf
-table-bits t h = rw (lt-ltb t 64 h) (or-zero-r (2 ^ t))
+table-bits t h = rw (lt-ltb t wordSize h) (or-zero-r (2 ^ t))
 
-pub no-table-bits : (t : ℕ) → 64 ≤ t → tableBits t ≡ 0
+pub no-table-bits : (t : ℕ) → wordSize ≤ t → tableBits t ≡ 0
 unfolding tableBits wordTables keep bitsOf
-no-table-bits t h = rw (le-ltb t 64 h)
+no-table-bits t h = rw (le-ltb t wordSize h)
 
 -- ---- arrays of words
 

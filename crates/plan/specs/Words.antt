@@ -6,13 +6,14 @@ use Prim.Native.Nat.{ℕ, zero, suc}
 use lib.Bits.{bitAnd, bitOr}
 use lib.Dec.{ltb}
 use lib.ListN.{length, getD}
+use Rattle.cells.specs.Limits.{mostTables, mostNodes}
 use Rattle.cells.specs.Choice.{if_then_else_}
 use Rattle.cells.specs.Condition.{namesOf}
 use Rattle.cells.specs.declared.condition.Condition.{Condition}
 use Rattle.rows.specs.Lists.{range, keep, has}
 use Rattle.plan.specs.Report.{Join, Pair, Query, conditionNumbers, conditionAt, namedBy}
 use Rattle.plan.specs.declared.join.BitJoin.{BitJoin}
-use Rattle.plan.specs.Bits.{hasBit}
+use Rattle.plan.specs.Bits.{wordSize, hasBit}
 use Rattle.plan.specs.Steps.{bitsOf}
 use Rattle.plan.specs.Nodes.{grown, tablesAt, tablesOfPair}
 use Rattle.plan.specs.Sets.{Sets, setOf, blanksLeft, blanksRight}
@@ -43,7 +44,7 @@ everyUnless b w = if b then w else everyBit
 
 -- the table numbers that a word has room for
 unfoldable pub wordTables : List ℕ → List ℕ
-wordTables ts = keep (λ t. ltb t 64) ts
+wordTables ts = keep (λ t. ltb t wordSize) ts
 
 unfoldable pub tableBits : ℕ → ℕ
 tableBits t = bitsOf (wordTables (t ∷ []))
@@ -80,11 +81,11 @@ wordsTo f n = map (λ i. bitsOf (f i)) (range 0 n)
 
 -- the sets of eight tables
 unfoldable pub setWords : Sets → List ℕ
-setWords S = wordsTo (setOf S) 8
+setWords S = wordsTo (setOf S) mostTables
 
 -- the tables under fifteen nodes
 unfoldable pub nodeWords : List (List ℕ) → List ℕ
-nodeWords nodes = wordsTo (tablesAt nodes) 15
+nodeWords nodes = wordsTo (tablesAt nodes) mostNodes
 
 -- the nodes that are tables
 unfoldable pub leafWords : ℕ → List ℕ
@@ -98,14 +99,14 @@ nodesFrom n ps = grown tablesOfPair (map (λ t. t ∷ []) (range 0 n)) ps
 
 -- the conditions that are in the set of one of these tables
 unfoldable pub gatherBits : List ℕ → ℕ → ℕ
-gatherBits sets tables = unionTo (λ t. onlyIf (hasBit tables t) (getD sets t 0)) 8
+gatherBits sets tables = unionTo (λ t. onlyIf (hasBit tables t) (getD sets t 0)) mostTables
 
 -- what a table takes: one word as a table of the left side, another as a table of the right side
 unfoldable pub gainBits : ℕ → ℕ → ℕ → ℕ → ℕ → ℕ
 gainBits left right toLeft toRight t = if hasBit left t then toLeft else if hasBit right t then toRight else 0
 
 unfoldable pub takenWords : List ℕ → ℕ → ℕ → ℕ → ℕ → List ℕ
-takenWords sets left right toLeft toRight = map (λ t. bitOr (getD sets t 0) (gainBits left right toLeft toRight t)) (range 0 8)
+takenWords sets left right toLeft toRight = map (λ t. bitOr (getD sets t 0) (gainBits left right toLeft toRight t)) (range 0 mostTables)
 
 -- the sets after a join, given the tables under each node
 unfoldable pub afterWords : List ℕ → List ℕ → BitJoin → List ℕ

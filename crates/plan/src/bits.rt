@@ -1,7 +1,7 @@
 // Sets of numbers below 64, as the bits of a word: condition numbers, and table numbers too.
 ghost use mathlib.Core.Path.{_≡_};
 ghost use Prim.Native.Nat.{_<_, _^_};
-ghost use Rattle.plan.specs.Bits.{hasBit};
+ghost use Rattle.plan.specs.Bits.{wordSize, hasBit};
 ghost use Rattle.plan.specs.Words.{onlyIf, everyUnless, tableBits};
 
 // How many numbers a word has.
@@ -22,7 +22,7 @@ pub fn member(s: u64, k: u64) -> bool
 
 // The set of one number.
 pub(crate) fn one(k: u64) -> u64
-    requires { ⌜ k < 64 ⌝ }
+    requires { ⌜ k < wordSize ⌝ }
     ensures { λ r. ⌜ r ≡ 2 ^ k ⌝ }
 {
     1 << k

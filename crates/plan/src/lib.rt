@@ -1,6 +1,7 @@
 // The query of a report, its blanking sets and its plan.
 pub mod bits;
 pub mod blanking;
+pub mod facts;
 pub mod join;
 pub mod order;
 pub mod pairs;

@@ -2,17 +2,10 @@
 // kept; the question about it comes in its turn.
 use cells::condition::Condition;
 use cells::condition::Layout;
+use cells::limits::CONDITIONS;
+use cells::limits::JOINS;
+use cells::limits::PAIRS;
 use rows::kind::Kind;
-
-// How many joins, conditions and pairs are kept. Of tables the layout keeps 8.
-pub const JOINS: usize = 7;
-
-pub const CONDITIONS: usize = 64;
-
-// How many conditions a text may have (question 6).
-pub const WRITTEN: usize = 32;
-
-pub const PAIRS: usize = 7;
 
 // A J line: its kind, its two nodes, and its conditions, `count` of them from number `first` on.
 pub struct StoredJoin {

@@ -5,11 +5,12 @@ use crate::join::BitJoin;
 use crate::query::StoredJoin;
 use crate::query::StoredQuery;
 use crate::sets;
-use crate::sets::NODES;
+use cells::limits::NODES;
 use rows::kind::Kind;
 ghost use mathlib.Core.Path.{_≡_};
 ghost use Prim.Native.Nat.{_<_, _≤_};
 ghost use lib.ListN.{getD};
+ghost use Rattle.cells.specs.Limits.{mostTables, mostNodes};
 ghost use Rattle.plan.specs.Nodes.{joinTrees};
 ghost use Rattle.plan.specs.Questions.{question8};
 ghost use Rattle.plan.specs.Stored.{queryIn, joinIn};
@@ -36,7 +37,7 @@ fn under_at(under: [u64; NODES], i: u16) -> u64
 
 // The trees that are tables.
 fn leaves_under(tables: usize) -> [u64; NODES]
-    requires { ⌜ tables ≤ 8 ⌝ }
+    requires { ⌜ tables ≤ mostTables ⌝ }
     ensures { λ r. ⌜ r ≡ underWords (leafTrees tables) ⌝ }
 {
     let mut under = [1u64; NODES];
@@ -61,7 +62,7 @@ fn right_gain(kind: Kind, under: u64, rights: u64) -> u64
 
 // The trees with that of one join more.
 fn with_join(s: Sides, at: usize, j: StoredJoin) -> Sides
-    requires { ⌜ at < 15 ⌝ }
+    requires { ⌜ at < mostNodes ⌝ }
     ensures { λ r. ⌜ r ≡ withJoin s at (joinIn j) ⌝ }
 {
     let mut under = s.under;

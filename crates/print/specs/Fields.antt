@@ -2,17 +2,20 @@
 -- say how the lines of the print are made of them.
 -- Assumes nothing.
 use mathlib.Core.Path.{_≡_, refl, sym, ap, _∙_}
+use mathlib.Core.Bool.{true, false}
 use mathlib.Core.List.{List, [], _∷_, _++_, map, flatMap, append-assoc, append-nil}
-use Prim.Native.Nat.{ℕ, zero, suc, _+_, _-_, _/_, _%_, _^_, _≤_, _<_}
+use Prim.Native.Nat.{ℕ, zero, suc, _+_, _-_, _/_, _%_, _≤_, _<_}
 use native.Mathlib.Numerals.{sub-one}
 use native.Mathlib.Omega.{arith}
 use borrow.Author.Tests.{le-leb, lt-leb, eq-eqb, ne-eqb}
 use lib.ListN.{length, take, drop, getD, length-drop}
 use lib.Seq.{getD-drop}
+use Rattle.cells.specs.Limits.{mostConditions}
 use Rattle.cells.specs.Row.{blankRow}
 use Rattle.rows.specs.Lists.{keep}
+use Rattle.plan.specs.Bits.{hasBit}
 use Rattle.text.specs.Bytes.{Bytes, bytes, tab, lineFeed}
-use Rattle.text.specs.Print.{printFields, printNumber, digitsOf, printEntry, hasBit, bitNumbers}
+use Rattle.text.specs.Print.{printFields, printNumber, digitsOf, printEntry, bitNumbers}
 use Rattle.print.specs.Loops.{upTo, upTo-same, upTo-flatMap, upTo-keep}
 
 -- a field behind its tab
@@ -65,17 +68,17 @@ entry-number x e = rw (ne-eqb x blankRow e)
 unfoldable pub bitField : ℕ → ℕ → Bytes
 bitField m k = flatMap numberField (keep (hasBit m) (k ∷ []))
 
-pub bit-set : (m k : ℕ) → m / 2 ^ k % 2 ≡ 1 → bitField m k ≡ numberField k
-unfolding bitField keep hasBit flatMap
-bit-set m k e = rw (eq-eqb (m / 2 ^ k % 2) 1 e) (append-nil (numberField k))
+pub bit-set : (m k : ℕ) → hasBit m k ≡ true → bitField m k ≡ numberField k
+unfolding bitField keep flatMap
+bit-set m k e = rw e (append-nil (numberField k))
 
-pub bit-clear : (m k : ℕ) → (m / 2 ^ k % 2 ≡ 1 → ⊥) → bitField m k ≡ []
-unfolding bitField keep hasBit flatMap
-bit-clear m k e = rw (ne-eqb (m / 2 ^ k % 2) 1 e)
+pub bit-clear : (m k : ℕ) → hasBit m k ≡ false → bitField m k ≡ []
+unfolding bitField keep flatMap
+bit-clear m k e = rw e
 
-pub bits-all : (m : ℕ) → upTo (bitField m) 64 ≡ flatMap numberField (bitNumbers m)
+pub bits-all : (m : ℕ) → upTo (bitField m) mostConditions ≡ flatMap numberField (bitNumbers m)
 unfolding bitField bitNumbers
-bits-all m = upTo-keep (hasBit m) numberField 64
+bits-all m = upTo-keep (hasBit m) numberField mostConditions
 
 -- the entries of the row of n numbers that stands at a place
 pub entries-all : (l : List ℕ) (from n : ℕ) → from + n ≤ length l

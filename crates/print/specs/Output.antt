@@ -6,7 +6,7 @@ use Prim.Native.Nat.{ℕ, suc, _+_, _≤_}
 use native.Mathlib.Nat.{add-zero, add-suc, suc-add}
 use native.Mathlib.Omega.{arith}
 use lib.ListN.{length, set, take, drop, length-append}
-use lib.Seq.{sets, sets-eq, length-sets}
+use lib.Seq.{sets, sets-eq}
 use Rattle.text.specs.Bytes.{Bytes}
 
 -- the output w with bytes written from a place on is w′, and r is the place behind them; they take at most so much room
@@ -23,9 +23,6 @@ sets-append w at (x ∷ a) b =
     sets-append (set w at x) (suc at) a b ∙ ap (λ (k : ℕ). sets (sets (set w at x) (suc at) a) k b) e
 
 module _ {w w′ : List ℕ} {at r : ℕ} {a : Bytes} {m : ℕ} where
-  pub written-length : Written w at a m w′ r → length w′ ≡ length w
-  written-length p = ap length (p .buffer) ∙ length-sets w at a
-
   pub written-then : {w″ : List ℕ} {r′ : ℕ} {b : Bytes} {n : ℕ} → Written w at a m w′ r → Written w′ r b n w″ r′
       → Written w at (a ++ b) (m + n) w″ r′
   written-then {b} p q = record {

@@ -5,30 +5,38 @@ use mathlib.Core.List.{List, _++_, flatMap}
 use mathlib.Core.Path.{_≡_}
 use Prim.Native.Nat.{ℕ, _*_, _≤_}
 use lib.Dec.{leb, ltb}
-use lib.ListN.{length, drop}
+use lib.ListN.{length, take, drop}
 use Rattle.cells.specs.Choice.{if_then_else_}
+use Rattle.cells.specs.Limits.{mostTables, mostRows, mostSteps, printRoom}
 use Rattle.cells.specs.Row.{Row}
+use Rattle.plan.specs.declared.facts.Facts.{Facts}
 use Rattle.plan.specs.declared.step.Step.{Step}
 use Rattle.text.specs.Bytes.{Bytes}
 use Rattle.text.specs.Print.{printSets, printStep, printRow}
-use Rattle.print.specs.Room.{printRoom}
 use Rattle.print.specs.declared.whole.Printed.{Printed}
 use Rattle.print.specs.declared.whole.Printed.the-variants.{Bytes as Wrote, NoRoom, Unfit}
 
 -- the lines of an answer of the engine
-unfoldable pub reportBytes : List ℕ → List Step → List Row → Bytes
-reportBytes sets steps rows = printSets 0 sets ++ flatMap printStep steps ++ flatMap printRow rows
+unfoldable pub reportBytes : Facts → List Step → List Row → Bytes
+reportBytes f steps rows = printSets 0 (take (f .tables) (f .sets)) ++ flatMap printStep steps ++ flatMap printRow rows
 
--- whether the counts are those of an answer: at most 8 tables, 16 steps and 256 rows, and the rows stand in so many numbers
-unfoldable pub fitting : ℕ → ℕ → ℕ → ℕ → Bool
-fitting tables steps rows numbers = leb tables 8 && (leb steps 16 && (leb rows 256 && leb (rows * tables) numbers))
+-- whether so many tables and rows are those of an answer, and the rows stand in so many numbers
+unfoldable pub rowsFit : ℕ → ℕ → ℕ → Bool
+rowsFit tables rows numbers = leb tables mostTables && (leb rows mostRows && leb (rows * tables) numbers)
 
--- the same, as facts
-pub record Fitting (tables steps rows numbers : ℕ) : Type 0 where
-  pub tables-few : tables ≤ 8
-  pub steps-few : steps ≤ 16
-  pub rows-few : rows ≤ 256
+-- the same of an answer of the engine, with the count of its steps
+unfoldable pub fitting : Facts → ℕ → ℕ → ℕ → Bool
+fitting f steps rows numbers = leb steps mostSteps && rowsFit (f .tables) rows numbers
+
+-- both as facts
+pub record RowsFit (tables rows numbers : ℕ) : Type 0 where
+  pub tables-few : tables ≤ mostTables
+  pub rows-few : rows ≤ mostRows
   pub numbers-there : rows * tables ≤ numbers
+
+pub record Fitting (f : Facts) (steps rows numbers : ℕ) : Type 0 where
+  pub steps-few : steps ≤ mostSteps
+  pub rows-fit : RowsFit (f .tables) rows numbers
 
 -- the answer of a print, and the output afterwards
 pub record Print : Type 0 where

@@ -3,57 +3,65 @@
 use mathlib.Core.Bool.{Bool, true, false, _&&_}
 use mathlib.Core.List.{List, _++_}
 use mathlib.Core.Path.{_≡_, refl, ap, _∙_}
-use Prim.Native.Nat.{ℕ, _+_, _*_, _≤_, _<_}
+use Prim.Native.Nat.{ℕ, _*_, _≤_, _<_}
 use native.Mathlib.Omega.{arith}
 use lib.Dec.{leb, ltb}
 use lib.ListN.{length, drop}
 use borrow.Author.Tests.{le-leb, lt-leb, lt-ltb, le-ltb, leb-true}
+use Rattle.cells.specs.Limits.{mostTables, mostRows, mostSteps, printRoom}
+use Rattle.plan.specs.declared.facts.Facts.{Facts}
 use Rattle.text.specs.Bytes.{Bytes}
 use Rattle.print.specs.Output.{Written, written-whole}
-use Rattle.print.specs.Room.{printRoom}
-use Rattle.print.specs.Printed.{fitting, Fitting, printed, Prints}
+use Rattle.print.specs.Printed.{rowsFit, fitting, RowsFit, Fitting, printed, Prints}
 use Rattle.print.specs.declared.whole.Printed.the-variants.{Bytes as Wrote, NoRoom, Unfit}
 
--- ---- the test of the counts
-
-module _ (tables steps rows numbers : ℕ) where
-  pub many-tables : 8 < tables → fitting tables steps rows numbers ≡ false
-  unfolding fitting
-  many-tables h = rw (lt-leb tables 8 h)
-
-  pub many-steps : tables ≤ 8 → 16 < steps → fitting tables steps rows numbers ≡ false
-  unfolding fitting
-  many-steps t h = rw (le-leb tables 8 t, lt-leb steps 16 h)
-
-  pub many-rows : tables ≤ 8 → steps ≤ 16 → 256 < rows → fitting tables steps rows numbers ≡ false
-  unfolding fitting
-  many-rows t s h = rw (le-leb tables 8 t, le-leb steps 16 s, lt-leb rows 256 h)
-
-  pub few : tables ≤ 8 → steps ≤ 16 → rows ≤ 256 → fitting tables steps rows numbers ≡ leb (rows * tables) numbers
-  unfolding fitting
-  few t s h = rw (le-leb tables 8 t, le-leb steps 16 s, le-leb rows 256 h)
+-- ---- the tests of the counts
 
 both : (a b : Bool) → a && b ≡ true → (a ≡ true) × (b ≡ true)
 both true b e = (refl, e)
 both false b e = let z : _≡_ {A = ℕ} 0 1 = cc in absurd (omega arith)
 
--- what the test shows
-pub fitting-facts : (tables steps rows numbers : ℕ) → fitting tables steps rows numbers ≡ true → Fitting tables steps rows numbers
-unfolding fitting
-fitting-facts tables steps rows numbers e =
-    let (t, e₁) = both (leb tables 8) (leb steps 16 && (leb rows 256 && leb (rows * tables) numbers)) e in
-    let (s, e₂) = both (leb steps 16) (leb rows 256 && leb (rows * tables) numbers) e₁ in
-    let (h, n) = both (leb rows 256) (leb (rows * tables) numbers) e₂ in
-    record {
-      tables-few = leb-true tables 8 t;
-      steps-few = leb-true steps 16 s;
-      rows-few = leb-true rows 256 h;
-      numbers-there = leb-true (rows * tables) numbers n;
-    }
+module _ (tables rows numbers : ℕ) where
+  pub many-tables : mostTables < tables → rowsFit tables rows numbers ≡ false
+  unfolding rowsFit
+  many-tables h = rw (lt-leb tables mostTables h)
 
-pub facts-fitting : (tables steps rows numbers : ℕ) → Fitting tables steps rows numbers → fitting tables steps rows numbers ≡ true
-facts-fitting tables steps rows numbers f =
-    few tables steps rows numbers (f .tables-few) (f .steps-few) (f .rows-few) ∙ le-leb (rows * tables) numbers (f .numbers-there)
+  pub many-rows : tables ≤ mostTables → mostRows < rows → rowsFit tables rows numbers ≡ false
+  unfolding rowsFit
+  many-rows t h = rw (le-leb tables mostTables t, lt-leb rows mostRows h)
+
+  pub few-rows : tables ≤ mostTables → rows ≤ mostRows → rowsFit tables rows numbers ≡ leb (rows * tables) numbers
+  unfolding rowsFit
+  few-rows t h = rw (le-leb tables mostTables t, le-leb rows mostRows h)
+
+  -- what the test shows
+  pub rows-facts : rowsFit tables rows numbers ≡ true → RowsFit tables rows numbers
+  unfolding rowsFit
+  rows-facts e =
+      let (t, f) = both (leb tables mostTables) (leb rows mostRows && leb (rows * tables) numbers) e in
+      let (h, n) = both (leb rows mostRows) (leb (rows * tables) numbers) f in
+      record { tables-few = leb-true tables mostTables t; rows-few = leb-true rows mostRows h; numbers-there = leb-true (rows * tables) numbers n }
+
+  pub facts-rows : RowsFit tables rows numbers → rowsFit tables rows numbers ≡ true
+  facts-rows f = few-rows (f .tables-few) (f .rows-few) ∙ le-leb (rows * tables) numbers (f .numbers-there)
+
+module _ (f : Facts) (steps rows numbers : ℕ) where
+  pub many-steps : mostSteps < steps → fitting f steps rows numbers ≡ false
+  unfolding fitting
+  many-steps h = rw (lt-leb steps mostSteps h)
+
+  pub few-steps : steps ≤ mostSteps → fitting f steps rows numbers ≡ rowsFit (f .tables) rows numbers
+  unfolding fitting
+  few-steps h = rw (le-leb steps mostSteps h)
+
+  pub fitting-facts : fitting f steps rows numbers ≡ true → Fitting f steps rows numbers
+  unfolding fitting
+  fitting-facts e =
+      let (s, r) = both (leb steps mostSteps) (rowsFit (f .tables) rows numbers) e in
+      record { steps-few = leb-true steps mostSteps s; rows-fit = rows-facts (f .tables) rows numbers r }
+
+  pub facts-fitting : Fitting f steps rows numbers → fitting f steps rows numbers ≡ true
+  facts-fitting h = few-steps (h .steps-few) ∙ facts-rows (f .tables) rows numbers (h .rows-fit)
 
 -- ---- the print
 

@@ -1,15 +1,16 @@
 -- The room that the parts of the print take: bounds on their bytes, by which the code shows that it stays within the output. They
--- serve the code; no demand cites them but `printRoom`, the size that an output needs.
+-- serve the code; no demand cites them.
 -- Assumes nothing.
 use Prim.Native.Nat.{ℕ, _+_, _*_}
+use Rattle.cells.specs.Limits.{mostTables, mostRows, mostConditions, mostSteps}
 
 -- a field: its tab and at most five digits
 abbrev pub fieldRoom : ℕ
 fieldRoom = 1 + 5
 
--- a set of conditions: a field for each of 64 bits
+-- a set of conditions: a field for each bit
 abbrev pub bitsRoom : ℕ
-bitsRoom = 64 * fieldRoom
+bitsRoom = mostConditions * fieldRoom
 
 -- the end of a line: a number, a set of conditions and the line feed
 abbrev pub endRoom : ℕ
@@ -31,14 +32,14 @@ bestMatchRoom = 1 + 1
 abbrev pub stepRoom : ℕ
 stepRoom = 1 + kindRoom + 2 * fieldRoom + endRoom
 
--- a row's line, of at most eight entries
+-- a row's line, of an entry for each table
 abbrev pub rowRoom : ℕ
-rowRoom = 1 + 8 * fieldRoom + 1
+rowRoom = 1 + mostTables * fieldRoom + 1
 
 -- a refusal's line
 abbrev pub refusalRoom : ℕ
 refusalRoom = 1 + fieldRoom + 1
 
--- every print: eight tables, sixteen steps and 256 rows fit (`report-room` of RoomLaws)
-abbrev pub printRoom : ℕ
-printRoom = 32768
+-- the lines of an answer (`report-room` of RoomLaws); an output has more, `printRoom` of Limits
+abbrev pub reportRoom : ℕ
+reportRoom = tableRoom * mostTables + stepRoom * mostSteps + rowRoom * mostRows

@@ -1,4 +1,4 @@
--- The print of every answer fits the room of the output: 8 tables, 16 steps and 256 rows of 8 entries. Assumes nothing.
+-- The print of every answer fits its room: each table's set, the steps of a plan, and the rows of a result. Assumes nothing.
 use mathlib.Core.Bool.{Bool, true, false}
 use mathlib.Core.List.{List, [], _∷_, _++_, map, flatMap}
 use mathlib.Core.Path.{_≡_, refl}
@@ -8,17 +8,19 @@ use native.Mathlib.Omega.{arith}
 use lib.Dec.{leb, eqb}
 use lib.ListN.{length, take, length-append, length-take}
 use Rattle.cells.specs.Choice.{if_then_else_}
+use Rattle.cells.specs.Limits.{mostTables, mostRows, mostConditions, mostSteps}
 use Rattle.cells.specs.Row.{Row, blankRow}
 use Rattle.rows.specs.Lists.{range}
 use Rattle.rows.specs.ListLaws.{_isIn_, here, there, keep-fewer, length-range}
+use Rattle.plan.specs.Bits.{hasBit}
+use Rattle.plan.specs.declared.facts.Facts.{Facts}
 use Rattle.plan.specs.declared.step.Step.{Step}
 use Rattle.text.specs.Bytes.{Bytes, bytes, tab, lineFeed}
-use Rattle.text.specs.Print.{digitsOf, printNumber, printFields, printEntry, hasBit, bitNumbers, kindLetter, printSets, printStep, printRow, printRefusal}
-use Rattle.print.specs.Room.{fieldRoom, bitsRoom, endRoom, tableRoom, stepRoom, rowRoom, refusalRoom, printRoom}
+use Rattle.text.specs.Print.{digitsOf, printNumber, printFields, printEntry, bitNumbers, kindLetter, printSets, printStep, printRow, printRefusal}
+use Rattle.print.specs.Room.{fieldRoom, bitsRoom, endRoom, tableRoom, stepRoom, rowRoom, refusalRoom, reportRoom}
 use Rattle.print.specs.Fields.{field, numberField, entryField}
 use Rattle.print.specs.Lines.{end-line, row-line, refusal-line}
-use Rattle.print.specs.Rows.{rowsIn, rows-count, rows-width}
-use Rattle.print.specs.Printed.{reportBytes, Fitting}
+use Rattle.print.specs.Printed.{reportBytes}
 
 -- ---- lists
 
@@ -65,8 +67,8 @@ bits-room m =
     omega (
       arith,
       flatMap-room numberField fieldRoom (bitNumbers m) (λ n _. number-room n),
-      keep-fewer (hasBit m) (range 0 64),
-      length-range 0 64,
+      keep-fewer (hasBit m) (range 0 mostConditions),
+      length-range 0 mostConditions,
     )
 
 -- ---- lines
@@ -85,7 +87,7 @@ sets-room t (s ∷ S) =
     let line : Bytes = printFields (map printNumber (t ∷ bitNumbers s)) in
     omega (arith, sets-room (suc t) S, end-room t s, length-append line (printSets (suc t) S))
 
-pub row-room : (row : Row) → length row ≤ 8 → length (printRow row) ≤ rowRoom
+pub row-room : (row : Row) → length row ≤ mostTables → length (printRow row) ≤ rowRoom
 unfolding bytes
 row-room row h =
     let fields : Bytes = flatMap entryField row in
@@ -146,29 +148,24 @@ step-room s = go (leb (s .kind) 3) (eqb (s .kind) 4)
 
 -- ---- the print of an answer
 
--- eight tables, sixteen steps and 256 rows of eight entries
-pub report-room : (sets : List ℕ) (steps : List Step) (rows : List Row) → length sets ≤ 8 → length steps ≤ 16 → length rows ≤ 256
-    → ((row : Row) → row isIn rows → length row ≤ 8) → length (reportBytes sets steps rows) ≤ printRoom
+pub rows-room : (rows : List Row) → length rows ≤ mostRows → ((row : Row) → row isIn rows → length row ≤ mostTables)
+    → length (flatMap printRow rows) ≤ rowRoom * mostRows
+rows-room rows h wide = omega (arith, flatMap-room printRow rowRoom rows (λ row m. row-room row (wide row m)))
+
+-- the whole print
+pub report-room : (f : Facts) (steps : List Step) (rows : List Row) → f .tables ≤ mostTables → length steps ≤ mostSteps → length rows ≤ mostRows
+    → ((row : Row) → row isIn rows → length row ≤ mostTables) → length (reportBytes f steps rows) ≤ reportRoom
 unfolding reportBytes
-report-room sets steps rows a b c h =
-    let S : Bytes = printSets 0 sets in
+report-room f steps rows a b c h =
+    let S : Bytes = printSets 0 (take (f .tables) (f .sets)) in
     let P : Bytes = flatMap printStep steps in
     let R : Bytes = flatMap printRow rows in
     omega (
       arith,
       length-append (S ++ P) R,
       length-append S P,
-      sets-room 0 sets,
+      sets-room 0 (take (f .tables) (f .sets)),
+      length-take (f .tables) (f .sets),
       flatMap-room printStep stepRoom steps (λ s _. step-room s),
-      flatMap-room printRow rowRoom rows (λ row m. row-room row (h row m)),
+      rows-room rows c h,
     )
-
--- the same of what a call prints from its arrays and its result buffer
-pub call-room : (sets : List ℕ) (steps : List Step) (result : List ℕ) (tables count rows : ℕ) → Fitting tables count rows (length result)
-    → length (reportBytes (take tables sets) (take count steps) (rowsIn tables rows result)) ≤ printRoom
-call-room sets steps result tables count rows f =
-    report-room (take tables sets) (take count steps) (rowsIn tables rows result)
-    (omega (arith, length-take tables sets))
-    (omega (arith, length-take count steps))
-    (omega (arith, rows-count tables rows result))
-    (λ row m. omega (arith, rows-width tables rows result row m))

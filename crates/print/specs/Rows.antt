@@ -3,8 +3,7 @@ use mathlib.Core.Path.{_≡_, refl, sym, ap, ap₂, _∙_}
 use mathlib.Core.List.{List, [], _∷_, _++_, flatMap, append-assoc}
 use Prim.Native.Nat.{ℕ, zero, suc, _+_, _*_, _≤_, _<_}
 use native.Mathlib.Nat.{zero-mul, suc-mul, add-comm, mul-le-mul-right}
-use native.Mathlib.Omega.{arith}
-use lib.ListN.{length, take, drop, length-take}
+use lib.ListN.{length, take, drop}
 use lib.Seq.{drop-drop, take-at, drop-at}
 use Rattle.cells.specs.Row.{Row}
 use Rattle.rows.specs.ListLaws.{_isIn_, here, there}
@@ -26,17 +25,6 @@ rows-written n (row ∷ rows) rest h =
     let all : List ℕ = flatMap (λ (row : Row). row) rows ++ rest in
     rw (append-assoc row (flatMap (λ (row : Row). row) rows) rest, take-at row all n e, drop-at row all n e)
     (ap (λ (l : List Row). row ∷ l) (rows-written n rows rest (λ r m. h r (there m))))
-
-pub rows-count : (n k : ℕ) (l : List ℕ) → length (rowsIn n k l) ≡ k
-unfolding rowsIn
-rows-count n zero l = refl
-rows-count n (suc k) l = ap suc (rows-count n k (drop n l))
-
-pub rows-width : (n k : ℕ) (l : List ℕ) (row : Row) → row isIn rowsIn n k l → length row ≤ n
-unfolding rowsIn
-rows-width n zero l row m = elim m [ ]
-rows-width n (suc k) l row (here e) = omega (arith, ap length e, length-take n l)
-rows-width n (suc k) l row (there m) = rows-width n k (drop n l) row m
 
 -- a row ends within the rows
 pub row-fits : {i k : ℕ} (n : ℕ) → i < k → i * n + n ≤ k * n

@@ -1,6 +1,8 @@
 // The fields of a line, each behind its tab.
 use crate::output;
-ghost use Prim.Native.Nat.{_+_, _<_, _≤_};
+use cells::limits::CONDITIONS;
+use plan::bits;
+ghost use Prim.Native.Nat.{_+_, _≤_};
 ghost use lib.ListN.{length};
 ghost use mathlib.Core.List.{flatMap};
 ghost use Rattle.text.specs.Print.{digitsOf, bitNumbers};
@@ -17,11 +19,8 @@ const ZERO: u8 = b'0';
 // The most digits of a number of the print.
 const DIGITS: usize = 5;
 
-// The bits of a set of conditions.
-const BITS: u16 = 64;
-
 // The decimal digits of a number that has at most so many.
-fn write_digits(out: &mut [u8], at: usize, most: usize, n: u16) -> usize
+fn write_digits(out: &mut [u8], at: usize, most: usize, n: u64) -> usize
     requires { ⌜ at + most ≤ length (now out) ⌝ }
     ensures { λ r. ⌜ Written (now (out .entry)) at (digitsOf most n) most (now (out .exit)) r ⌝ }
 {
@@ -36,7 +35,7 @@ fn write_digits(out: &mut [u8], at: usize, most: usize, n: u16) -> usize
 }
 
 // A number.
-pub(crate) fn write_number(out: &mut [u8], at: usize, n: u16) -> usize
+pub(crate) fn write_number(out: &mut [u8], at: usize, n: u64) -> usize
     requires { ⌜ at + fieldRoom ≤ length (now out) ⌝ }
     ensures { λ r. ⌜ Written (now (out .entry)) at (numberField n) fieldRoom (now (out .exit)) r ⌝ }
 {
@@ -53,29 +52,29 @@ pub(crate) fn write_entry(out: &mut [u8], at: usize, x: u16) -> usize
         let next = output::put(out, at, TAB);
         return output::put(out, next, b'-');
     }
-    write_number(out, at, x)
+    write_number(out, at, x as u64)
 }
 
 // The number of a bit, if the bit is set.
-fn write_bit(out: &mut [u8], at: usize, bits: u64, k: u16) -> usize
-    requires { ⌜ (k < 64) × (at + fieldRoom ≤ length (now out)) ⌝ }
-    ensures { λ r. ⌜ Written (now (out .entry)) at (bitField bits k) fieldRoom (now (out .exit)) r ⌝ }
+fn write_bit(out: &mut [u8], at: usize, set: u64, k: u64) -> usize
+    requires { ⌜ at + fieldRoom ≤ length (now out) ⌝ }
+    ensures { λ r. ⌜ Written (now (out .entry)) at (bitField set k) fieldRoom (now (out .exit)) r ⌝ }
 {
-    if (bits >> k) % 2 == 1 {
+    if bits::member(set, k) {
         return write_number(out, at, k);
     }
     at
 }
 
 // The numbers of the bits that are set.
-pub(crate) fn write_bits(out: &mut [u8], at: usize, bits: u64) -> usize
+pub(crate) fn write_bits(out: &mut [u8], at: usize, set: u64) -> usize
     requires { ⌜ at + bitsRoom ≤ length (now out) ⌝ }
-    ensures { λ r. ⌜ Written (now (out .entry)) at (flatMap numberField (bitNumbers bits)) bitsRoom (now (out .exit)) r ⌝ }
+    ensures { λ r. ⌜ Written (now (out .entry)) at (flatMap numberField (bitNumbers set)) bitsRoom (now (out .exit)) r ⌝ }
 {
     let mut next = at;
-    let mut k: u16 = 0;
-    while k < BITS {
-        next = write_bit(out, next, bits, k);
+    let mut k: u64 = 0;
+    while k < CONDITIONS as u64 {
+        next = write_bit(out, next, set, k);
         k += 1;
     }
     next

@@ -5,6 +5,7 @@ use plan::step::Step;
 ghost use mathlib.Core.List.{[], _∷_, _++_, map, flatMap};
 ghost use Prim.Native.Nat.{_+_, _*_, _<_, _≤_};
 ghost use lib.ListN.{length, take, drop};
+ghost use Rattle.cells.specs.Limits.{mostTables};
 ghost use Rattle.text.specs.Bytes.{bytes};
 ghost use Rattle.text.specs.Print.{bitNumbers, printFields, printNumber, kindLetter, printStep, printRow, printRefusal};
 ghost use Rattle.print.specs.Output.{Written};
@@ -12,7 +13,7 @@ ghost use Rattle.print.specs.Room.{fieldRoom, endRoom, tableRoom, kindRo
 ghost use Rattle.print.specs.Fields.{field, entryField};
 
 // The end of a line: a number, the numbers of the conditions, and the line feed.
-fn write_end(out: &mut [u8], at: usize, number: u16, conditions: u64) -> usize
+fn write_end(out: &mut [u8], at: usize, number: u64, conditions: u64) -> usize
     requires { ⌜ at + endRoom ≤ length (now out) ⌝ }
     ensures { λ r. ⌜ Written (now (out .entry)) at (printFields (map printNumber (number ∷ bitNumbers conditions))) endRoom (now (out .exit)) r ⌝ }
 {
@@ -26,7 +27,7 @@ pub(crate) fn write_table(
     out: &mut [u8],
     at: usize,
     letter: u8,
-    table: u16,
+    table: u64,
     conditions: u64,
 ) -> usize
     requires { ⌜ at + tableRoom ≤ length (now out) ⌝ }
@@ -58,9 +59,9 @@ fn write_pair(out: &mut [u8], at: usize, s: Step) -> usize
 {
     let mut next = output::put(out, at, b'M');
     next = write_kind(out, next, s.kind);
-    next = field::write_number(out, next, s.first as u16);
-    next = field::write_number(out, next, s.second as u16);
-    write_end(out, next, s.rows, s.conditions)
+    next = field::write_number(out, next, s.first as u64);
+    next = field::write_number(out, next, s.second as u64);
+    write_end(out, next, s.rows as u64, s.conditions)
 }
 
 // The line of best match.
@@ -87,14 +88,14 @@ pub(crate) fn write_step(out: &mut [u8], at: usize, s: Step) -> usize
         return write_pair(out, at, s);
     }
     if kind == BLANKING {
-        return write_table(out, at, b'B', s.first as u16, s.conditions);
+        return write_table(out, at, b'B', s.first as u64, s.conditions);
     }
     write_best_match(out, at)
 }
 
 // The entries of the row that stands at `from`.
 fn write_entries(out: &mut [u8], at: usize, rows: &[u16], from: usize, n: usize) -> usize
-    requires { ⌜ (from + n ≤ length (now rows)) × (n ≤ 8) × (at + fieldRoom * n ≤ length (now out)) ⌝ }
+    requires { ⌜ (from + n ≤ length (now rows)) × (n ≤ mostTables) × (at + fieldRoom * n ≤ length (now out)) ⌝ }
     ensures { λ r. ⌜ Written (now (out .entry)) at (flatMap entryField (take n (drop from (now (rows .entry))))) (fieldRoom * n) (now (out .exit)) r ⌝ }
 {
     let mut next = at;
@@ -108,7 +109,7 @@ fn write_entries(out: &mut [u8], at: usize, rows: &[u16], from: usize, n: usize)
 
 // The line of the row of n entries that stands at `from`.
 pub(crate) fn write_row(out: &mut [u8], at: usize, rows: &[u16], from: usize, n: usize) -> usize
-    requires { ⌜ (from + n ≤ length (now rows)) × (n ≤ 8) × (at + rowRoom ≤ length (now out)) ⌝ }
+    requires { ⌜ (from + n ≤ length (now rows)) × (n ≤ mostTables) × (at + rowRoom ≤ length (now out)) ⌝ }
     ensures { λ r. ⌜ Written (now (out .entry)) at (printRow (take n (drop from (now (rows .entry))))) rowRoom (now (out .exit)) r ⌝ }
 {
     let mut next = output::put(out, at, b'R');
@@ -122,6 +123,6 @@ pub(crate) fn write_refusal(out: &mut [u8], at: usize, number: u8) -> usize
     ensures { λ r. ⌜ Written (now (out .entry)) at (printRefusal number) refusalRoom (now (out .exit)) r ⌝ }
 {
     let mut next = output::put(out, at, b'E');
-    next = field::write_number(out, next, number as u16);
+    next = field::write_number(out, next, number as u64);
     output::put(out, next, field::LINE_FEED)
 }

@@ -1,27 +1,26 @@
 // The lines of all tables, of all steps and of all rows.
 use crate::line;
-use cells::condition::TABLES;
+use cells::limits::STEPS;
+use cells::limits::TABLES;
 use plan::step::Step;
 ghost use mathlib.Core.List.{flatMap};
 ghost use Prim.Native.Nat.{_+_, _*_, _≤_};
 ghost use lib.ListN.{length, take};
+ghost use Rattle.cells.specs.Limits.{mostTables, mostRows, mostSteps};
 ghost use Rattle.text.specs.Print.{printSets, printStep, printRow};
 ghost use Rattle.print.specs.Output.{Written};
 ghost use Rattle.print.specs.Room.{tableRoom, stepRoom, rowRoom};
 ghost use Rattle.print.specs.Rows.{rowsIn};
 
-// The most steps that a plan has.
-pub const STEPS: usize = 16;
-
 // The S lines of the first n tables.
 pub(crate) fn write_sets(out: &mut [u8], at: usize, sets: [u64; TABLES], n: usize) -> usize
-    requires { ⌜ (n ≤ 8) × (at + tableRoom * n ≤ length (now out)) ⌝ }
+    requires { ⌜ (n ≤ mostTables) × (at + tableRoom * n ≤ length (now out)) ⌝ }
     ensures { λ r. ⌜ Written (now (out .entry)) at (printSets 0 (take n sets)) (tableRoom * n) (now (out .exit)) r ⌝ }
 {
     let mut next = at;
     let mut t = 0;
     while t < n {
-        next = line::write_table(out, next, b'S', t as u16, sets[t]);
+        next = line::write_table(out, next, b'S', t as u64, sets[t]);
         t += 1;
     }
     next
@@ -29,7 +28,7 @@ pub(crate) fn write_sets(out: &mut [u8], at: usize, sets: [u64; TABLES], n: usiz
 
 // The lines of the first n steps.
 pub(crate) fn write_steps(out: &mut [u8], at: usize, steps: [Step; STEPS], n: usize) -> usize
-    requires { ⌜ (n ≤ 16) × (at + stepRoom * n ≤ length (now out)) ⌝ }
+    requires { ⌜ (n ≤ mostSteps) × (at + stepRoom * n ≤ length (now out)) ⌝ }
     ensures { λ r. ⌜ Written (now (out .entry)) at (flatMap printStep (take n steps)) (stepRoom * n) (now (out .exit)) r ⌝ }
 {
     let mut next = at;
@@ -44,7 +43,7 @@ pub(crate) fn write_steps(out: &mut [u8], at: usize, steps: [Step; STEPS], n: us
 
 // The R lines of so many rows of n entries, which stand one after the other.
 pub(crate) fn write_rows(out: &mut [u8], at: usize, result: &[u16], rows: usize, n: usize) -> usize
-    requires { ⌜ (rows ≤ 256) × (n ≤ 8) × (rows * n ≤ length (now result)) × (at + rowRoom * rows ≤ length (now out)) ⌝ }
+    requires { ⌜ (rows ≤ mostRows) × (n ≤ mostTables) × (rows * n ≤ length (now result)) × (at + rowRoom * rows ≤ length (now out)) ⌝ }
     ensures { λ r. ⌜ Written (now (out .entry)) at (flatMap printRow (rowsIn n rows (now (result .entry)))) (rowRoom * rows) (now (out .exit)) r ⌝ }
 {
     let mut next = at;

@@ -1,24 +1,22 @@
 // The whole print of an answer.
 use crate::line;
 use crate::lines;
-use cells::condition::TABLES;
+use cells::limits::PRINT_ROOM;
+use cells::limits::ROWS;
+use cells::limits::STEPS;
+use cells::limits::TABLES;
+use plan::facts::Facts;
 use plan::step::Step;
 ghost use mathlib.Core.Bool.{true};
 ghost use mathlib.Core.List.{flatMap};
 ghost use mathlib.Core.Path.{_≡_};
-ghost use Prim.Native.Nat.{_≤_};
+ghost use Prim.Native.Nat.{_+_, _≤_};
 ghost use lib.ListN.{length, take};
 ghost use Rattle.text.specs.Print.{printRow, printRefusal};
 ghost use Rattle.print.specs.Output.{Written};
-ghost use Rattle.print.specs.Room.{printRoom};
+ghost use Rattle.print.specs.Room.{reportRoom};
 ghost use Rattle.print.specs.Rows.{rowsIn};
-ghost use Rattle.print.specs.Printed.{reportBytes, fitting, Fitting, printed, Prints};
-
-// The size of an output that every print fits in.
-pub const PRINT_ROOM: usize = 32768;
-
-// The most rows of a result.
-pub const ROWS: usize = 256;
+ghost use Rattle.print.specs.Printed.{reportBytes, rowsFit, fitting, Fitting, printed, Prints};
 
 // What a print answers: the number of its bytes; or that the output is shorter than PRINT_ROOM, or that the counts are not those of
 // an answer, and then nothing is written.
@@ -28,14 +26,11 @@ pub enum Printed {
     Unfit,
 }
 
-// Whether the counts are those of an answer whose rows stand in so many numbers.
-fn counts_fit(tables: usize, steps: usize, rows: usize, numbers: usize) -> bool
-    ensures { λ r. ⌜ r ≡ fitting tables steps rows numbers ⌝ }
+// Whether the counts of rows and tables are those of an answer whose rows stand in so many numbers.
+fn rows_fit(tables: usize, rows: usize, numbers: usize) -> bool
+    ensures { λ r. ⌜ r ≡ rowsFit tables rows numbers ⌝ }
 {
     if TABLES < tables {
-        return false;
-    }
-    if lines::STEPS < steps {
         return false;
     }
     if ROWS < rows {
@@ -44,38 +39,48 @@ fn counts_fit(tables: usize, steps: usize, rows: usize, numbers: usize) -> bool
     rows * tables <= numbers
 }
 
-// The lines of an answer of the engine: each table's set, the steps, and the rows that stand in `result`.
+// The same of an answer of the engine, with the count of its steps.
+fn counts_fit(facts: Facts, steps: usize, rows: usize, numbers: usize) -> bool
+    ensures { λ r. ⌜ r ≡ fitting facts steps rows numbers ⌝ }
+{
+    if STEPS < steps {
+        return false;
+    }
+    rows_fit(facts.tables, rows, numbers)
+}
+
+// The lines of an answer of the engine from a place on: each table's set, the steps, and the rows that stand in `result`.
 fn write_report(
     out: &mut [u8],
-    sets: [u64; TABLES],
-    tables: usize,
-    steps: [Step; lines::STEPS],
+    at: usize,
+    facts: Facts,
+    steps: [Step; STEPS],
     count: usize,
     result: &[u16],
     rows: usize,
 ) -> usize
-    requires { ⌜ Fitting tables count rows (length (now result)) × (printRoom ≤ length (now out)) ⌝ }
-    ensures { λ r. ⌜ Written (now (out .entry)) 0 (reportBytes (take tables sets) (take count steps) (rowsIn tables rows (now (result .entry)))) printRoom (now (out .exit)) r ⌝ }
+    requires { ⌜ Fitting facts count rows (length (now result)) × (at + reportRoom ≤ length (now out)) ⌝ }
+    ensures { λ r. ⌜ Written (now (out .entry)) at (reportBytes facts (take count steps) (rowsIn (facts .tables) rows (now (result .entry)))) reportRoom (now (out .exit)) r ⌝ }
 {
-    let mut next = lines::write_sets(out, 0, sets, tables);
+    let sets = facts.sets;
+    let mut next = lines::write_sets(out, at, sets, facts.tables);
     next = lines::write_steps(out, next, steps, count);
-    lines::write_rows(out, next, result, rows, tables)
+    lines::write_rows(out, next, result, rows, facts.tables)
 }
 
 // The print of an answer of the engine.
 pub fn print_report(
     out: &mut [u8],
-    sets: [u64; TABLES],
-    tables: usize,
-    steps: [Step; lines::STEPS],
+    facts: Facts,
+    steps: [Step; STEPS],
     count: usize,
     result: &[u16],
     rows: usize,
 ) -> Printed
     ensures { λ r. ⌜ Prints
         (printed
-        (fitting tables count rows (length (now (result .entry))))
-        (reportBytes (take tables sets) (take count steps) (rowsIn tables rows (now (result .entry))))
+        (fitting facts count rows (length (now (result .entry))))
+        (reportBytes facts (take count steps) (rowsIn (facts .tables) rows (now (result .entry))))
         (now (out .entry)))
         r
         (now (out .exit)) ⌝ }
@@ -83,8 +88,8 @@ pub fn print_report(
     if out.len() < PRINT_ROOM {
         return Printed::NoRoom;
     }
-    if counts_fit(tables, count, rows, result.len()) {
-        let n = write_report(out, sets, tables, steps, count, result, rows);
+    if counts_fit(facts, count, rows, result.len()) {
+        let n = write_report(out, 0, facts, steps, count, result, rows);
         return Printed::Bytes(n);
     }
     Printed::Unfit
@@ -94,7 +99,7 @@ pub fn print_report(
 pub fn print_direct(out: &mut [u8], result: &[u16], rows: usize, tables: usize) -> Printed
     ensures { λ r. ⌜ Prints
         (printed
-        (fitting tables 0 rows (length (now (result .entry))))
+        (rowsFit tables rows (length (now (result .entry))))
         (flatMap printRow (rowsIn tables rows (now (result .entry))))
         (now (out .entry)))
         r
@@ -103,7 +108,7 @@ pub fn print_direct(out: &mut [u8], result: &[u16], rows: usize, tables: usize) 
     if out.len() < PRINT_ROOM {
         return Printed::NoRoom;
     }
-    if counts_fit(tables, 0, rows, result.len()) {
+    if rows_fit(tables, rows, result.len()) {
         let n = lines::write_rows(out, 0, result, rows, tables);
         return Printed::Bytes(n);
     }

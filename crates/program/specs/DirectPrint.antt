@@ -1,23 +1,23 @@
 -- The print of the direct reading, by the answer of the call. Assumes nothing.
 use mathlib.Core.Path.{_≡_, refl, sym, ap, ap₂, _∙_, subst}
 use mathlib.Core.Bool.{Bool, true, false, _&&_}
-use mathlib.Core.List.{List, [], _∷_, _++_, flatMap}
+use mathlib.Core.List.{List, _++_, flatMap}
 use Prim.Native.Nat.{ℕ, _*_, _≤_, _<_}
 use native.Mathlib.Nat.{mul-le-mul-right}
 use native.Mathlib.Omega.{arith}
-use lib.Dec.{T, leb, ltb}
+use lib.Dec.{leb}
 use lib.ListN.{length, drop}
 use mir.Facts.{and-yes, leb-yes}
 use borrow.Author.Tests.{lt-ltb, le-ltb}
 use Rattle.cells.specs.Choice.{if_then_else_}
+use Rattle.cells.specs.Limits.{mostTables, mostRows, cellRoom, workRoom, resultRoom, printRoom}
 use Rattle.cells.specs.Row.{Row}
 use Rattle.text.specs.Bytes.{Bytes}
 use Rattle.text.specs.Print.{printRow, printRefusal}
-use Rattle.print.specs.Room.{printRoom}
 use Rattle.print.specs.Rows.{rowsIn, rows-written}
-use Rattle.print.specs.Printed.{fitting, Fitting, Print, Prints}
+use Rattle.print.specs.Printed.{rowsFit, RowsFit, Print, Prints}
 use Rattle.print.specs.Printed as P
-use Rattle.print.specs.PrintedLaws.{facts-fitting, printed-bytes}
+use Rattle.print.specs.PrintedLaws.{facts-rows, printed-bytes}
 use Rattle.print.specs.declared.whole.Printed.{Printed}
 use Rattle.print.specs.declared.whole.Printed.the-variants.{Bytes as Wrote, NoRoom}
 use Rattle.engine.specs.Answers.{Outcome, refused, answered, directOutcome}
@@ -27,7 +27,7 @@ use Rattle.engine.specs.Gave.{tablesIn, widthOf}
 use Rattle.engine.specs.Programs.{printDirect, direct}
 use Rattle.engine.specs.declared.answer.Answer.{Answer}
 use Rattle.engine.specs.declared.answer.Answer.the-variants.{Rows, Refused}
-use Rattle.program.specs.PrintedCalls.{PrintedCall, printCall, printed, printDirectCall}
+use Rattle.program.specs.PrintedCalls.{printCall, printed, printDirectCall}
 
 -- ---- any call
 
@@ -49,20 +49,19 @@ call-printed b after before out h e p =
 
 -- ---- rows that stand in a result buffer
 
-product : (k n : ℕ) → k ≤ 256 → n ≤ 8 → k * n ≤ 2048
+product : (k n : ℕ) → k ≤ mostRows → n ≤ mostTables → k * n ≤ resultRoom
 product k n h l =
-    let a : k * n ≤ 256 * n = mul-le-mul-right n h in
+    let a : k * n ≤ mostRows * n = mul-le-mul-right n h in
     omega (arith, a, l)
 
 -- rows of an answer that were written to the result: their counts are those of an answer, and they are read again
-module _ {n : ℕ} {rows : List Row} (b : Bounded n rows) (w w′ : List ℕ) (e : w′ ≡ written rows w) (room : 2048 ≤ length w′) where
-  pub rows-fit : (steps : ℕ) → steps ≤ 16 → fitting n steps (length rows) (length w′) ≡ true
-  rows-fit steps h = facts-fitting n steps (length rows) (length w′) (record {
+module _ {n : ℕ} {rows : List Row} (b : Bounded n rows) (w w′ : List ℕ) (e : w′ ≡ written rows w) (room : resultRoom ≤ length w′) where
+  pub rows-fit : RowsFit n (length rows) (length w′)
+  rows-fit = record {
     tables-few = b .eight;
-    steps-few = h;
     rows-few = b .few;
     numbers-there = omega (arith, product (length rows) n (b .few) (b .eight), room);
-  })
+  }
 
   pub rows-again : rowsIn n (length rows) w′ ≡ rows
   unfolding written
@@ -110,24 +109,24 @@ module _ (text : Bytes) (m : Lent) where
   direct-answered k e = answered-by k (question1Direct m) refl e
 
   -- question 1 sees to the result buffer
-  pub enough-result : question1Direct m ≡ true → 2048 ≤ length (m .result)
+  pub enough-result : question1Direct m ≡ true → resultRoom ≤ length (m .result)
   unfolding question1Direct
   enough-result e =
-      let (a, _) = and-yes (leb 16384 (length (m .work)) && leb 2048 (length (m .result))) (leb 4096 (length (m .cells))) (rw e tt) in
-      leb-yes (and-yes (leb 16384 (length (m .work))) (leb 2048 (length (m .result))) a .1)
+      let (a, _) = and-yes (leb workRoom (length (m .work)) && leb resultRoom (length (m .result))) (leb cellRoom (length (m .cells))) (rw e tt) in
+      leb-yes (and-yes (leb workRoom (length (m .work))) (leb resultRoom (length (m .result))) a .1)
 
   -- what is printed of it
   module _ (tables k : ℕ) (w′ : List ℕ) (e : directCall text m .answer ≡ Rows k) (f : w′ ≡ directCall text m .lent .result)
       (wide : tables ≡ tablesIn text) (long : length w′ ≡ length (m .result)) where
-    room : 2048 ≤ length w′
+    room : resultRoom ≤ length w′
     room = omega (arith, long, enough-result (direct-answered k e .asked))
 
     bounded : Bounded tables (direct-answered k e .rows)
     bounded = subst (λ (n : ℕ). Bounded n (direct-answered k e .rows)) (sym wide) (direct-bounded text _ (direct-answered k e .outcome))
 
-    pub direct-fits : fitting tables 0 k (length w′) ≡ true
-    direct-fits = subst (λ (i : ℕ). fitting tables 0 i (length w′) ≡ true) (direct-answered k e .count)
-        (rows-fit bounded (m .result) w′ (f ∙ direct-answered k e .result) room 0 (omega arith))
+    pub direct-fits : rowsFit tables k (length w′) ≡ true
+    direct-fits = subst (λ (i : ℕ). rowsFit tables i (length w′) ≡ true) (direct-answered k e .count)
+        (facts-rows _ _ _ (rows-fit bounded (m .result) w′ (f ∙ direct-answered k e .result) room))
 
     pub direct-bytes : printed m (direct text) ≡ flatMap printRow (rowsIn tables k w′)
     unfolding printed direct printDirect
@@ -154,7 +153,7 @@ module _ (text : Bytes) (m : Lent) {a : Answer} {after : Lent} (e : record { ans
       (call-printed (printRefusal n) after m out h (printed-bytes true (printRefusal n) out h refl) p)
 
   pub printed-rows : (k tables : ℕ) {r : Printed} → a ≡ Rows k → tables ≡ widthOf text a → length (after .result) ≡ length (m .result)
-      → Prints (P.printed (fitting tables 0 k (length (after .result))) (flatMap printRow (rowsIn tables k (after .result))) out) r out′
+      → Prints (P.printed (rowsFit tables k (length (after .result))) (flatMap printRow (rowsIn tables k (after .result))) out) r out′
       → record { answer = r; output = out′; lent = after } ≡ printDirectCall text m out
   unfolding widthOf
   printed-rows k tables {r} f wide long p =
@@ -164,4 +163,4 @@ module _ (text : Bytes) (m : Lent) {a : Answer} {after : Lent} (e : record { ans
       let y : after .result ≡ directCall text m .lent .result = ap (λ (l : Lent). l .result) after-is in
       as-call b r (direct-bytes text m tables k (after .result) x y v long)
       (call-printed b after m out h
-      (printed-bytes (fitting tables 0 k (length (after .result))) b out h (direct-fits text m tables k (after .result) x y v long)) p)
+      (printed-bytes (rowsFit tables k (length (after .result))) b out h (direct-fits text m tables k (after .result) x y v long)) p)

@@ -8,10 +8,10 @@ use native.Mathlib.Omega.{arith}
 use lib.Dec.{ltb}
 use lib.ListN.{length, drop, replicate, length-append}
 use Rattle.cells.specs.Choice.{if_then_else_}
+use Rattle.cells.specs.Limits.{mostSteps, printRoom}
 use Rattle.plan.specs.Steps.{zeroStep}
 use Rattle.text.specs.Bytes.{Bytes}
 use Rattle.text.specs.Print.{printRefusal}
-use Rattle.print.specs.Room.{printRoom}
 use Rattle.print.specs.declared.whole.Printed.{Printed}
 use Rattle.print.specs.declared.whole.Printed.the-variants.{Bytes as Wrote, NoRoom}
 use Rattle.engine.specs.Calls.{Lent, question1Direct, directCall, reportCall}
@@ -40,7 +40,7 @@ printDirectCall text m out = printCall (printed m (direct text)) (directCall tex
 
 -- the print of the report, whose step list is handed over by value
 unfoldable pub printReportCall : Bytes → Lent → List ℕ → PrintedCall
-printReportCall text m out = printCall (printed m (report text)) (reportCall text m (replicate 16 zeroStep) .lent) m out
+printReportCall text m out = printCall (printed m (report text)) (reportCall text m (replicate mostSteps zeroStep) .lent) m out
 
 -- ---- laws
 
@@ -73,4 +73,4 @@ direct-within text m out n e f = bytes-within (printed m (direct text)) (directC
 pub report-within : (text : Bytes) (m : Lent) (out : List ℕ) {r : Printed} {out′ : List ℕ} {lent : Lent} (n : ℕ)
     → record { answer = r; output = out′; lent = lent } ≡ printReportCall text m out → r ≡ Wrote n → n ≤ length out′
 unfolding printReportCall
-report-within text m out n e f = bytes-within (printed m (report text)) (reportCall text m (replicate 16 zeroStep) .lent) m out n e f
+report-within text m out n e f = bytes-within (printed m (report text)) (reportCall text m (replicate mostSteps zeroStep) .lent) m out n e f

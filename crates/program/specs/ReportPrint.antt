@@ -1,36 +1,41 @@
 -- The print of the report, by the answer of the call. Assumes nothing.
 use mathlib.Core.Path.{_≡_, refl, sym, ap, ap₂, _∙_, subst}
 use mathlib.Core.Bool.{Bool, true, false, and-true}
-use mathlib.Core.List.{List, [], _∷_, _++_, flatMap}
+use mathlib.Core.List.{List, _++_, flatMap}
 use Prim.Native.Nat.{ℕ, _≤_}
 use native.Mathlib.Omega.{arith}
-use lib.Dec.{leb}
-use lib.ListN.{length, take, drop, replicate}
+use lib.ListN.{length, take, replicate}
 use lib.Seq.{take-at}
 use Rattle.cells.specs.Choice.{if_then_else_}
-use Rattle.cells.specs.Row.{Row}
+use Rattle.cells.specs.Limits.{mostSteps, resultRoom, printRoom}
 use Rattle.plan.specs.Steps.{zeroStep}
+use Rattle.plan.specs.Facts.{noFacts}
+use Rattle.plan.specs.declared.facts.Facts.{Facts}
 use Rattle.plan.specs.declared.step.Step.{Step}
 use Rattle.text.specs.Bytes.{Bytes}
 use Rattle.text.specs.Print.{printSets, printStep, printRow, printRefusal}
-use Rattle.print.specs.Room.{printRoom}
 use Rattle.print.specs.Rows.{rowsIn}
 use Rattle.print.specs.Printed.{reportBytes, fitting, Prints}
 use Rattle.print.specs.Printed as P
-use Rattle.print.specs.PrintedLaws.{printed-bytes}
+use Rattle.print.specs.PrintedLaws.{facts-fitting, printed-bytes}
 use Rattle.print.specs.declared.whole.Printed.{Printed}
 use Rattle.engine.specs.Answers.{Outcome, refused, answered, ReportAnswer, reportOutcome}
 use Rattle.engine.specs.Bounds.{Bounded, report-bounded}
-use Rattle.engine.specs.Calls.{Lent, noSets, question1Direct, question1, written, cleared, laidOut, ReportCall, reportAfter, reportCall}
+use Rattle.engine.specs.Calls.{Lent, question1Direct, question1, written, cleared, laidOut, factsOf, ReportCall, reportAfter, reportCall}
 use Rattle.engine.specs.Programs.{printReport, report}
-use Rattle.engine.specs.declared.answer.Answer.{Answer}
 use Rattle.engine.specs.declared.answer.Answer.the-variants.{Rows, Refused}
-use Rattle.program.specs.PrintedCalls.{PrintedCall, printCall, printed, printReportCall}
+use Rattle.program.specs.PrintedCalls.{printCall, printed, printReportCall}
 use Rattle.program.specs.DirectPrint.{call-printed, rows-fit, rows-again, enough-result}
+
+-- what is printed of an answer, from what stands beside it
+pub answer-printed : (a : ReportAnswer) → reportBytes (factsOf a) (a .steps) (a .rows) ≡ printReport (answered a)
+unfolding reportBytes factsOf printReport
+answer-printed a =
+    ap (λ (sets : List ℕ). printSets 0 sets ++ flatMap printStep (a .steps) ++ flatMap printRow (a .rows)) (take-at (a .sets) _ (length (a .sets)) refl)
 
 module _ (text : Bytes) (m : Lent) where
   abbrev none-yet : List Step
-  none-yet = replicate 16 zeroStep
+  none-yet = replicate mostSteps zeroStep
 
   -- question 1 of a call whose step list is handed over by value
   first : question1 m none-yet ≡ question1Direct m
@@ -41,7 +46,7 @@ module _ (text : Bytes) (m : Lent) where
   abbrev by : Bool → ReportCall
   by q = elim q [
     | true ↦ reportAfter (reportOutcome text) m none-yet
-    | false ↦ record { answer = Refused 1; tables = 0; sets = noSets; count = 0; lent = m; steps = none-yet }
+    | false ↦ record { answer = Refused 1; facts = noFacts; count = 0; lent = m; steps = none-yet }
   ]
 
   call-by : reportCall text m none-yet ≡ by (question1Direct m)
@@ -67,10 +72,9 @@ module _ (text : Bytes) (m : Lent) where
     pub outcome : reportOutcome text ≡ answered given
     pub rows : length (given .rows) ≡ k
     pub asked : question1Direct m ≡ true
-    pub tables : c .tables ≡ length (given .sets)
-    pub sets : c .sets ≡ given .sets ++ drop (length (given .sets)) noSets
+    pub facts : c .facts ≡ factsOf given
     pub count : c .count ≡ length (given .steps)
-    pub steps : c .steps ≡ laidOut (given .steps) 16
+    pub steps : c .steps ≡ laidOut (given .steps) mostSteps
     pub result : c .lent .result ≡ written (given .rows) (m .result)
 
   answered-by : (k : ℕ) (q : Bool) → question1Direct m ≡ q → by q .answer ≡ Rows k → Answered k (by q)
@@ -85,8 +89,7 @@ module _ (text : Bytes) (m : Lent) where
         outcome = g;
         rows = cc;
         asked = f;
-        tables = refl;
-        sets = refl;
+        facts = refl;
         count = refl;
         steps = refl;
         result = refl;
@@ -102,36 +105,36 @@ module _ (text : Bytes) (m : Lent) where
     this : Answered k c
     this = subst (Answered k) (sym call) (report-answered k (sym (ap (λ (z : ReportCall). z .answer) call) ∙ e))
 
-    room : 2048 ≤ length (c .lent .result)
+    room : resultRoom ≤ length (c .lent .result)
     room = omega (arith, long, enough-result text m (this .asked))
 
-    bounded : Bounded (c .tables) (this .given .rows)
-    bounded = subst (λ (n : ℕ). Bounded n (this .given .rows)) (sym (this .tables)) (report-bounded text (this .given) (this .outcome) .0)
+    bounded : Bounded (c .facts .tables) (this .given .rows)
+    unfolding factsOf
+    bounded = subst (λ (f : Facts). Bounded (f .tables) (this .given .rows)) (sym (this .facts)) (report-bounded text (this .given) (this .outcome) .0)
 
-    few-steps : c .count ≤ 16
-    few-steps = subst (λ (n : ℕ). n ≤ 16) (sym (this .count)) (report-bounded text (this .given) (this .outcome) .1)
+    few-steps : c .count ≤ mostSteps
+    few-steps = subst (λ (n : ℕ). n ≤ mostSteps) (sym (this .count)) (report-bounded text (this .given) (this .outcome) .1)
 
-    pub report-fits : fitting (c .tables) (c .count) k (length (c .lent .result)) ≡ true
-    report-fits = subst (λ (i : ℕ). fitting (c .tables) (c .count) i (length (c .lent .result)) ≡ true) (this .rows)
-        (rows-fit bounded (m .result) (c .lent .result) (this .result) room (c .count) few-steps)
+    pub report-fits : fitting (c .facts) (c .count) k (length (c .lent .result)) ≡ true
+    report-fits = subst (λ (i : ℕ). fitting (c .facts) (c .count) i (length (c .lent .result)) ≡ true) (this .rows)
+        (facts-fitting _ _ _ _ (record { steps-few = few-steps; rows-fit = rows-fit bounded (m .result) (c .lent .result) (this .result) room }))
 
-    some-rows : rowsIn (c .tables) k (c .lent .result) ≡ this .given .rows
-    some-rows = ap (λ (i : ℕ). rowsIn (c .tables) i (c .lent .result)) (sym (this .rows)) ∙ rows-again bounded (m .result) (c .lent .result) (this .result) room
-
-    some-sets : take (c .tables) (c .sets) ≡ this .given .sets
-    some-sets = ap (take (c .tables)) (this .sets) ∙ take-at (this .given .sets) _ (c .tables) (sym (this .tables))
+    some-rows : rowsIn (c .facts .tables) k (c .lent .result) ≡ this .given .rows
+    some-rows = ap (λ (i : ℕ). rowsIn (c .facts .tables) i (c .lent .result)) (sym (this .rows)) ∙ rows-again bounded (m .result) (c .lent .result) (this .result) room
 
     some-steps : take (c .count) (c .steps) ≡ this .given .steps
     unfolding laidOut
     some-steps = ap (take (c .count)) (this .steps) ∙ take-at (this .given .steps) _ (c .count) (sym (this .count))
 
-    pub report-bytes : printed m (report text) ≡ reportBytes (take (c .tables) (c .sets)) (take (c .count) (c .steps)) (rowsIn (c .tables) k (c .lent .result))
-    unfolding printed report printReport reportBytes
-    report-bytes = rw (this .asked, this .outcome, some-sets, some-steps, some-rows)
+    pub report-bytes : printed m (report text) ≡ reportBytes (c .facts) (take (c .count) (c .steps)) (rowsIn (c .facts .tables) k (c .lent .result))
+    unfolding printed report
+    report-bytes =
+        rw (this .asked, this .outcome, some-steps, some-rows)
+        (sym (answer-printed (this .given)) ∙ ap (λ (f : Facts). reportBytes f (this .given .steps) (this .given .rows)) (sym (this .facts)))
 
 -- ---- the whole call
 
-module _ (text : Bytes) (m : Lent) {c : ReportCall} (e : c ≡ reportCall text m (replicate 16 zeroStep)) (out out′ : List ℕ)
+module _ (text : Bytes) (m : Lent) {c : ReportCall} (e : c ≡ reportCall text m (replicate mostSteps zeroStep)) (out out′ : List ℕ)
     (h : printRoom ≤ length out) where
   as-call : (b : Bytes) (r : Printed) → printed m (report text) ≡ b → record { answer = r; output = out′; lent = c .lent } ≡ printCall b (c .lent) m out
       → record { answer = r; output = out′; lent = c .lent } ≡ printReportCall text m out
@@ -144,11 +147,11 @@ module _ (text : Bytes) (m : Lent) {c : ReportCall} (e : c ≡ reportCall text m
       (call-printed (printRefusal n) (c .lent) m out h (printed-bytes true (printRefusal n) out h refl) p)
 
   pub printed-rows : (k : ℕ) {r : Printed} → c .answer ≡ Rows k → length (c .lent .result) ≡ length (m .result)
-      → Prints (P.printed (fitting (c .tables) (c .count) k (length (c .lent .result)))
-      (reportBytes (take (c .tables) (c .sets)) (take (c .count) (c .steps)) (rowsIn (c .tables) k (c .lent .result))) out) r out′
+      → Prints (P.printed (fitting (c .facts) (c .count) k (length (c .lent .result)))
+      (reportBytes (c .facts) (take (c .count) (c .steps)) (rowsIn (c .facts .tables) k (c .lent .result))) out) r out′
       → record { answer = r; output = out′; lent = c .lent } ≡ printReportCall text m out
   printed-rows k {r} f long p =
-      let b = reportBytes (take (c .tables) (c .sets)) (take (c .count) (c .steps)) (rowsIn (c .tables) k (c .lent .result)) in
+      let b = reportBytes (c .facts) (take (c .count) (c .steps)) (rowsIn (c .facts .tables) k (c .lent .result)) in
       as-call b r (report-bytes text m e k f long)
       (call-printed b (c .lent) m out h
-      (printed-bytes (fitting (c .tables) (c .count) k (length (c .lent .result))) b out h (report-fits text m e k f long)) p)
+      (printed-bytes (fitting (c .facts) (c .count) k (length (c .lent .result))) b out h (report-fits text m e k f long)) p)

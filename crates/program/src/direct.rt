@@ -1,6 +1,6 @@
 // The print of the direct reading.
+use cells::limits::PRINT_ROOM;
 use engine::answer::Answer;
-use print::whole::PRINT_ROOM;
 use print::whole::Printed;
 ghost use mathlib.Core.Path.{_≡_};
 ghost use Rattle.program.specs.PrintedCalls.{printDirectCall};

@@ -1,6 +1,6 @@
 // The print of the report.
+use cells::limits::PRINT_ROOM;
 use engine::answer::Answer;
-use print::whole::PRINT_ROOM;
 use print::whole::Printed;
 ghost use mathlib.Core.Path.{_≡_};
 ghost use Rattle.program.specs.PrintedCalls.{printReportCall};
@@ -27,19 +27,11 @@ pub fn print_report(
     }
     let p = engine::report::report(text, cells, work, result);
     let answer = p.answer;
-    let sets = p.sets;
+    let facts = p.facts;
     let plan = p.plan;
     let steps = plan.steps;
     match answer {
-        Answer::Rows(n) => print::whole::print_report(
-            out,
-            sets,
-            p.tables,
-            steps,
-            plan.count,
-            result,
-            n,
-        ),
+        Answer::Rows(n) => print::whole::print_report(out, facts, steps, plan.count, result, n),
         Answer::Refused(n) => print::whole::print_refusal(out, n),
     }
 }

@@ -6,6 +6,7 @@ use Prim.Native.Nat.{ℕ, zero, suc, _<_, _≤_}
 use native.Mathlib.Omega.{arith}
 use lib.Dec.{leb}
 use lib.ListN.{length, take}
+use Rattle.cells.specs.Limits.{mostJoins, mostPairs}
 use Rattle.plan.specs.Report.{Pair, tableCount, joinPairs}
 use Rattle.plan.specs.Stored.{queryIn, pairIn}
 use Rattle.plan.specs.Questions.{wellBuilt, question5, noneOrBuilt, question9}
@@ -15,24 +16,24 @@ use Rattle.plan.specs.declared.query.StoredQuery.{StoredQuery}
 use Rattle.questions.specs.Kept.{enough-room}
 
 module _ (q : StoredQuery) where
-  pub no-pairs : q .«pair_count» ≡ 0 → (leb (q .«pair_count») 7 && question9 (queryIn q)) ≡ true
+  pub no-pairs : q .«pair_count» ≡ 0 → (leb (q .«pair_count») mostPairs && question9 (queryIn q)) ≡ true
   unfolding question9 queryIn noneOrBuilt
   no-pairs e = rw e
 
   module _ (t : q .«table_count» ≤ length (q .layout .columns)) where
-    pub joins-asked : (ps : List Pair) → ps ≡ joinPairs (queryIn q) → q .«join_count» ≤ 7
-        → wellBuilt (q .«table_count») ps ≡ (leb (q .«join_count») 7 && question5 (queryIn q))
+    pub joins-asked : (ps : List Pair) → ps ≡ joinPairs (queryIn q) → q .«join_count» ≤ mostJoins
+        → wellBuilt (q .«table_count») ps ≡ (leb (q .«join_count») mostJoins && question5 (queryIn q))
     unfolding question5
     joins-asked ps e h =
-        ap₂ wellBuilt (sym (table-count q t)) e ∙ sym (enough-room (q .«join_count») 7 (question5 (queryIn q)) h)
+        ap₂ wellBuilt (sym (table-count q t)) e ∙ sym (enough-room (q .«join_count») mostJoins (question5 (queryIn q)) h)
 
-    pub pairs-asked : 0 < q .«pair_count» → q .«pair_count» ≤ 7 → length (q .pairs) ≡ 7
-        → wellBuilt (q .«table_count») (map pairIn (take (q .«pair_count») (q .pairs))) ≡ (leb (q .«pair_count») 7 && question9 (queryIn q))
+    pub pairs-asked : 0 < q .«pair_count» → q .«pair_count» ≤ mostPairs → length (q .pairs) ≡ mostPairs
+        → wellBuilt (q .«table_count») (map pairIn (take (q .«pair_count») (q .pairs))) ≡ (leb (q .«pair_count») mostPairs && question9 (queryIn q))
     unfolding question9 queryIn noneOrBuilt
     pairs-asked h k l =
         ap (λ (n : ℕ). wellBuilt n (map pairIn (take (q .«pair_count») (q .pairs)))) (sym (table-count q t))
         ∙ some (tableCount (queryIn q)) (q .«pair_count») (q .pairs) h (omega arith)
-        ∙ sym (enough-room (q .«pair_count») 7 (question9 (queryIn q)) k)
+        ∙ sym (enough-room (q .«pair_count») mostPairs (question9 (queryIn q)) k)
       where
         some : (m n : ℕ) (l : List StoredPair) → 0 < n → n ≤ length l → wellBuilt m (map pairIn (take n l)) ≡ noneOrBuilt m (map pairIn (take n l))
         some m zero l h k = absurd (omega arith)

@@ -15,7 +15,7 @@ use Rattle.cells.specs.BoolLaws.{same-test}
 use Rattle.rows.specs.Lists.{all, any, has}
 use Rattle.rows.specs.ListLaws.{_isIn_, here, there, or-left, or-right, has-intro, has-elim, all-intro, all-elim, keep-intro, keep-elim}
 use Rattle.plan.specs.Report.{Pair}
-use Rattle.plan.specs.Bits.{hasBit}
+use Rattle.plan.specs.Bits.{wordSize, hasBit}
 use Rattle.plan.specs.BitLaws.{bit-intro, bit-elim}
 use Rattle.plan.specs.Words.{wordTables, tableBits}
 use Rattle.plan.specs.WordLaws.{or-elim, or-intro, none-elim}
@@ -24,13 +24,13 @@ use Rattle.questions.specs.BuiltWords.{sideBits, pairFits, builtFrom}
 
 -- ---- words of sides
 
-own-bit : (k : ℕ) → k < 64 → T (hasBit (tableBits k) k)
+own-bit : (k : ℕ) → k < wordSize → T (hasBit (tableBits k) k)
 unfolding tableBits wordTables
-own-bit k h = bit-intro (keep-intro (λ (t : ℕ). ltb t 64) (here refl) (yes-ltb h))
+own-bit k h = bit-intro (keep-intro (λ (t : ℕ). ltb t wordSize) (here refl) (yes-ltb h))
 
 bit-own : (k j : ℕ) → T (hasBit (tableBits k) j) → j ≡ k
 unfolding tableBits wordTables
-bit-own k j t = one (keep-elim (λ (t : ℕ). ltb t 64) (k ∷ []) (bit-elim (wordTables (k ∷ [])) j t) .0)
+bit-own k j t = one (keep-elim (λ (t : ℕ). ltb t wordSize) (k ∷ []) (bit-elim (wordTables (k ∷ [])) j t) .0)
   where
     one : j isIn (k ∷ []) → j ≡ k
     one (here e) = e
@@ -48,11 +48,11 @@ module _ (used : ℕ) (p : Pair) where
   more-used : (k : ℕ) → T (hasBit used k) → T (hasBit more k)
   more-used k t = or-intro used (sideBits p) k (inl t)
 
-  more-left : p .0 < 64 → T (hasBit more (p .0))
+  more-left : p .0 < wordSize → T (hasBit more (p .0))
   unfolding sideBits
   more-left h = or-intro used (sideBits p) (p .0) (inr (or-intro (tableBits (p .0)) (tableBits (p .1)) (p .0) (inl (own-bit (p .0) h))))
 
-  more-right : p .1 < 64 → T (hasBit more (p .1))
+  more-right : p .1 < wordSize → T (hasBit more (p .1))
   unfolding sideBits
   more-right h = or-intro used (sideBits p) (p .1) (inr (or-intro (tableBits (p .0)) (tableBits (p .1)) (p .1) (inr (own-bit (p .1) h))))
 
@@ -112,7 +112,7 @@ built-none : (i used : ℕ) → Built i used []
 unfolding lowerSides noneTwice sidesOf free all
 built-none i used = record { lower = tt; once = tt; new = tt }
 
-module _ (i used : ℕ) (p : Pair) (ps : List Pair) (few : i ≤ 64) where
+module _ (i used : ℕ) (p : Pair) (ps : List Pair) (few : i ≤ wordSize) where
   built-cons : Fits i used p → Built (suc i) (bitOr used (sideBits p)) ps → Built i used (p ∷ ps)
   unfolding lowerSides noneTwice sidesOf has any
   built-cons f b = record {
@@ -162,14 +162,14 @@ module _ (i used : ℕ) (p : Pair) (ps : List Pair) (few : i ≤ 64) where
         },
       )
 
-built-elim : (i used : ℕ) (ps : List Pair) → i + length ps ≤ 64 → T (builtFrom i used ps) → Built i used ps
+built-elim : (i used : ℕ) (ps : List Pair) → i + length ps ≤ wordSize → T (builtFrom i used ps) → Built i used ps
 unfolding builtFrom
 built-elim i used [] h t = built-none i used
 built-elim i used (p ∷ ps) h t =
     let (f, r) = and-yes (pairFits i used p) (builtFrom (suc i) (bitOr used (sideBits p)) ps) t in
     built-cons i used p ps (omega arith) (fits-elim i used p f) (built-elim (suc i) (bitOr used (sideBits p)) ps (omega arith) r)
 
-built-intro : (i used : ℕ) (ps : List Pair) → i + length ps ≤ 64 → Built i used ps → T (builtFrom i used ps)
+built-intro : (i used : ℕ) (ps : List Pair) → i + length ps ≤ wordSize → Built i used ps → T (builtFrom i used ps)
 unfolding builtFrom
 built-intro i used [] h b = tt
 built-intro i used (p ∷ ps) h b =
@@ -178,7 +178,7 @@ built-intro i used (p ∷ ps) h b =
     (built-intro (suc i) (bitOr used (sideBits p)) ps (omega arith) r)
 
 -- from the first pair on, with no side yet
-pub built-from : (n : ℕ) (ps : List Pair) → n + length ps ≤ 64 → builtFrom n 0 ps ≡ (lowerSides n ps && noneTwice (sidesOf ps))
+pub built-from : (n : ℕ) (ps : List Pair) → n + length ps ≤ wordSize → builtFrom n 0 ps ≡ (lowerSides n ps && noneTwice (sidesOf ps))
 built-from n ps h = same-test (builtFrom n 0 ps) (lowerSides n ps && noneTwice (sidesOf ps))
     (λ t. let b = built-elim n 0 ps h t in yes-and (lowerSides n ps) (noneTwice (sidesOf ps)) (b .lower) (b .once))
     (λ t. let (l, o) = and-yes (lowerSides n ps) (noneTwice (sidesOf ps)) t in
@@ -232,6 +232,6 @@ pub built-count : (n : ℕ) (ps : List Pair) → suc (length ps) ≢ n → wellB
 unfolding wellBuilt
 built-count n ps h = rw (ne-eqb (suc (length ps)) n h)
 
-pub built-sides : (n : ℕ) (ps : List Pair) → suc (length ps) ≡ n → n + length ps ≤ 64 → builtFrom n 0 ps ≡ wellBuilt n ps
+pub built-sides : (n : ℕ) (ps : List Pair) → suc (length ps) ≡ n → n + length ps ≤ wordSize → builtFrom n 0 ps ≡ wellBuilt n ps
 unfolding wellBuilt
 built-sides n ps e h = rw (eq-eqb (suc (length ps)) n e) (built-from n ps h)

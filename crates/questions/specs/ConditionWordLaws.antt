@@ -11,13 +11,14 @@ use lib.IntN.{ℤ}
 use lib.ListN.{length, getD, take, drop, length-take, List·getD-eq-default}
 use lib.Seq.{getD-take}
 use borrow.Author.Tests.{le-ltb, eq-eqb, ne-eqb}
+use Rattle.cells.specs.Limits.{mostTables, mostJoins, mostNodes, mostWritten, mostConditions}
 use Rattle.cells.specs.declared.condition.Condition.{Condition}
 use Rattle.cells.specs.declared.condition.Side.{Side}
 use Rattle.cells.specs.declared.condition.Side.the-variants.{Column, Constant}
 use Rattle.rows.specs.Lists.{range, all, any}
 use Rattle.plan.specs.Report.{Join, Query, tableCount, joinPairs, conditionAt, noCondition}
 use Rattle.plan.specs.Nodes.{tablesAt, joinNodes}
-use Rattle.plan.specs.Plan.{between, crosses}
+use Rattle.plan.specs.Plan.{crosses}
 use Rattle.plan.specs.Stored.{queryIn, joinIn}
 use Rattle.plan.specs.Questions.{columnExists, sideExists, conditionFits, question6, question7}
 use Rattle.plan.specs.Bits.{hasBit}
@@ -25,13 +26,15 @@ use Rattle.plan.specs.Steps.{bitsOf}
 use Rattle.plan.specs.BitLaws.{has-bits, bits-append}
 use Rattle.plan.specs.Words.{nodeWords}
 use Rattle.plan.specs.SetWords.{node-word}
+use Rattle.plan.specs.PairWords.{crossesBits}
+use Rattle.plan.specs.PairWordLaws.{crosses-word}
 use Rattle.plan.specs.NodeWords.{node-count, nodes-from}
 use Rattle.plan.specs.JoinLaws.{condition-count}
 use Rattle.plan.specs.FoldWords.{tables-most, joins-most}
 use Rattle.plan.specs.declared.query.StoredJoin.{StoredJoin}
 use Rattle.plan.specs.declared.query.StoredQuery.{StoredQuery}
 use Rattle.questions.specs.Kept.{enough-room, all-same, any-same, kept-drop, kept-end}
-use Rattle.questions.specs.ConditionWords.{columnUnder, sideUnder, conditionUnder, numberFits, joinFits, oneInEach, sideCrosses, numberCrosses, joinCrosses}
+use Rattle.questions.specs.ConditionWords.{columnUnder, sideUnder, conditionUnder, numberFits, joinFits, numberCrosses, joinCrosses}
 
 -- ---- by the code's tests
 
@@ -85,27 +88,9 @@ module _ (q : Query) (k : ℕ) (c : Condition) (e : c ≡ conditionAt q k) where
   unfolding numberFits
   number-fits w = rw e
 
-  pub number-crosses : (s l : ℕ) → sideCrosses (c .table) (c .side) s l ≡ numberCrosses q s l k
+  pub number-crosses : (s l : ℕ) → crossesBits c s l ≡ numberCrosses q s l k
   unfolding numberCrosses
   number-crosses s l = rw e
-
-module _ (t u s l : ℕ) where
-  pub first-way : (hasBit s t && hasBit l u) ≡ true → oneInEach t u s l ≡ true
-  unfolding oneInEach
-  first-way e = rw e
-
-  pub second-way : (hasBit s t && hasBit l u) ≡ false → oneInEach t u s l ≡ (hasBit l t && hasBit s u)
-  unfolding oneInEach
-  second-way e = rw e
-
-module _ (t : ℕ) (side : Side) (s l : ℕ) where
-  pub crosses-column : (u c : ℕ) → side ≡ Column u c → sideCrosses t side s l ≡ oneInEach t u s l
-  unfolding sideCrosses
-  crosses-column u c e = rw e
-
-  pub crosses-constant : (z : ℤ) → side ≡ Constant z → sideCrosses t side s l ≡ false
-  unfolding sideCrosses
-  crosses-constant z e = rw e
 
 -- ---- the J lines one after the other
 
@@ -143,14 +128,9 @@ condition-word : (q : Query) (w : ℕ) (ts : List ℕ) (k : Condition) → w ≡
 unfolding conditionUnder conditionFits
 condition-word q w ts k e = rw e (ap₂ _&&_ (column-word q ts (k .table) (k .column)) (side-word q ts (k .table) (k .side)))
 
-crosses-word : (t : ℕ) (side : Side) (s l : List ℕ) → sideCrosses t side (bitsOf s) (bitsOf l) ≡ between t side s l
-unfolding sideCrosses oneInEach between
-crosses-word t (Column u c) s l = rw (has-bits s t, has-bits l u, has-bits l t, has-bits s u)
-crosses-word t (Constant z) s l = refl
-
 -- ---- the words of nodes
 
-module _ (q : Query) (nodes : List (List ℕ)) (few : length nodes ≤ 15) where
+module _ (q : Query) (nodes : List (List ℕ)) (few : length nodes ≤ mostNodes) where
   fits-words : (j : Join) → joinFits q (nodeWords nodes) j
       ≡ all (λ k. conditionFits q (tablesAt nodes (j .left) ++ tablesAt nodes (j .right)) (conditionAt q k)) (j .conditions)
   unfolding joinFits numberFits
@@ -161,16 +141,16 @@ module _ (q : Query) (nodes : List (List ℕ)) (few : length nodes ≤ 15) where
 
   crosses-words : (j : Join) → joinCrosses q (nodeWords nodes) j
       ≡ any (λ k. crosses (conditionAt q k) (tablesAt nodes (j .left)) (tablesAt nodes (j .right))) (j .conditions)
-  unfolding joinCrosses numberCrosses crosses
+  unfolding joinCrosses numberCrosses
   crosses-words j = rw (node-word nodes few (j .left), node-word nodes few (j .right))
       (any-same (numberCrosses q (bitsOf (tablesAt nodes (j .left))) (bitsOf (tablesAt nodes (j .right))))
       (λ (k : ℕ). crosses (conditionAt q k) (tablesAt nodes (j .left)) (tablesAt nodes (j .right))) (j .conditions)
-      (λ k. crosses-word (conditionAt q k .table) (conditionAt q k .side) (tablesAt nodes (j .left)) (tablesAt nodes (j .right))))
+      (λ k. crosses-word (conditionAt q k) (tablesAt nodes (j .left)) (tablesAt nodes (j .right))))
 
 -- ---- the questions
 
-module _ (q : StoredQuery) (t : q .«table_count» ≤ 8) (n : q .«join_count» ≤ 7) where
-  nodes-few : length (joinNodes (queryIn q)) ≤ 15
+module _ (q : StoredQuery) (t : q .«table_count» ≤ mostTables) (n : q .«join_count» ≤ mostJoins) where
+  nodes-few : length (joinNodes (queryIn q)) ≤ mostNodes
   unfolding joinNodes
   nodes-few = omega (
     arith,
@@ -180,13 +160,13 @@ module _ (q : StoredQuery) (t : q .«table_count» ≤ 8) (n : q .«join_count»
     ap length (nodes-from (queryIn q) (tableCount (queryIn q)) (joinPairs (queryIn q)) (joinPairs (queryIn q)) refl refl),
   )
 
-  pub fits-asked : length (q .conditions) ≡ 64 → q .«condition_count» ≤ 32 → (nodes : List ℕ) → nodes ≡ nodeWords (joinNodes (queryIn q))
-      → all (joinFits (queryIn q) nodes) (queryIn q .joins) ≡ (leb (q .«condition_count») 32 && question6 (queryIn q))
+  pub fits-asked : length (q .conditions) ≡ mostConditions → q .«condition_count» ≤ mostWritten → (nodes : List ℕ) → nodes ≡ nodeWords (joinNodes (queryIn q))
+      → all (joinFits (queryIn q) nodes) (queryIn q .joins) ≡ (leb (q .«condition_count») mostWritten && question6 (queryIn q))
   unfolding question6
   fits-asked l h nodes e =
       rw e (all-same (joinFits (queryIn q) (nodeWords (joinNodes (queryIn q)))) _ (queryIn q .joins) (fits-words (queryIn q) (joinNodes (queryIn q)) nodes-few)
-      ∙ sym (enough-room (length (queryIn q .conditions)) 32 _ (omega (arith, condition-count q (omega arith))))
-      ∙ sym (enough-room (q .«condition_count») 32 (question6 (queryIn q)) h))
+      ∙ sym (enough-room (length (queryIn q .conditions)) mostWritten _ (omega (arith, condition-count q (omega arith))))
+      ∙ sym (enough-room (q .«condition_count») mostWritten (question6 (queryIn q)) h))
 
   pub crosses-asked : (nodes : List ℕ) → nodes ≡ nodeWords (joinNodes (queryIn q)) → all (joinCrosses (queryIn q) nodes) (queryIn q .joins) ≡ question7 (queryIn q)
   unfolding question7

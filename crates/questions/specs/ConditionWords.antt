@@ -1,6 +1,6 @@
 -- Shapes that serve the contracts of this crate's functions alone; no demand cites them. Conditions against the tables under
 -- nodes, these as words. Assumes nothing.
-use mathlib.Core.Bool.{Bool, true, false, not, _&&_, _||_}
+use mathlib.Core.Bool.{Bool, true, not, _&&_}
 use mathlib.Core.List.{List}
 use Prim.Native.Nat.{ℕ}
 use lib.Bits.{bitOr}
@@ -12,6 +12,7 @@ use Rattle.cells.specs.declared.condition.Side.the-variants.{Column, Constant}
 use Rattle.rows.specs.Lists.{all, any}
 use Rattle.plan.specs.Report.{Join, Query, conditionAt}
 use Rattle.plan.specs.Bits.{hasBit}
+use Rattle.plan.specs.PairWords.{crossesBits}
 
 -- ---- 6
 
@@ -37,17 +38,9 @@ joinFits q nodes j = all (numberFits q (bitOr (getD nodes (j .left) 0) (getD nod
 
 -- ---- 7
 
--- whether one of two tables is in each of two words
-unfoldable pub oneInEach : ℕ → ℕ → ℕ → ℕ → Bool
-oneInEach t u s l = hasBit s t && hasBit l u || hasBit l t && hasBit s u
-
--- whether a condition is a C line that names one table of each of two words
-unfoldable pub sideCrosses : ℕ → Side → ℕ → ℕ → Bool
-sideCrosses t (Column u c) s l = oneInEach t u s l
-sideCrosses t (Constant z) s l = false
-
+-- whether a condition of a number is a C line that names one table of each of two words
 unfoldable pub numberCrosses : Query → ℕ → ℕ → ℕ → Bool
-numberCrosses q s l k = sideCrosses (conditionAt q k .table) (conditionAt q k .side) s l
+numberCrosses q s l k = crossesBits (conditionAt q k) s l
 
 -- whether a join has such a condition, given the tables under each node
 unfoldable pub joinCrosses : Query → List ℕ → Join → Bool

@@ -1,5 +1,4 @@
 pub mod Kept
-pub mod TreeLines
 pub mod BuiltWords
 pub mod BuiltWordLaws
 pub mod BuiltQuestions

@@ -9,7 +9,7 @@ use Prim.Native.Nat.{ℕ, _<_, _≤_}
 use native.Mathlib.Omega.{arith}
 use lib.Dec.{leb, not-T}
 use lib.IntN.{ℤ}
-use lib.ListN.{length, take, length-map}
+use lib.ListN.{length, length-map}
 use lib.Seq.{take-all}
 use mir.Facts.{leb-yes, leb-no}
 use Rattle.cells.specs.Limits.{mostTables, mostJoins, mostPairs, mostWritten, mostConditions}

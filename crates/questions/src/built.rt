@@ -1,16 +1,16 @@
 // Questions 5 and 9: how the J lines and the P lines join nodes.
-use crate::tree;
+use cells::limits::JOINS;
+use cells::limits::PAIRS;
 use plan::bits;
 use plan::order;
 use plan::order::Order;
-use plan::query::JOINS;
-use plan::query::PAIRS;
 use plan::query::StoredPair;
 use plan::query::StoredQuery;
 ghost use mathlib.Core.Path.{_≡_};
 ghost use mathlib.Core.Bool.{_&&_};
 ghost use Prim.Native.Nat.{_≤_};
 ghost use lib.Dec.{leb};
+ghost use Rattle.cells.specs.Limits.{mostTables, mostJoins, mostPairs};
 ghost use Rattle.plan.specs.Stored.{queryIn, pairIn};
 ghost use Rattle.plan.specs.OrderWords.{orderIn};
 ghost use Rattle.plan.specs.Questions.{wellBuilt, question5, question9};
@@ -44,7 +44,7 @@ pub fn pair_fits(p: StoredPair, node: u16, used: u64) -> bool
 
 // Whether every pair's sides fit, the first pair being the node after the tables.
 fn sides_built(tables: u16, order: Order) -> bool
-    requires { ⌜ (tables ≤ 8) × (order .count ≤ 7) ⌝ }
+    requires { ⌜ (tables ≤ mostTables) × (order .count ≤ mostPairs) ⌝ }
     ensures { λ r. ⌜ r ≡ builtFrom tables 0 (orderIn order) ⌝ }
 {
     let pairs = order.pairs;
@@ -66,7 +66,7 @@ fn sides_built(tables: u16, order: Order) -> bool
 
 // Whether there is one pair fewer than tables, each side is lower than its node, and no node is a side twice.
 fn well_built(tables: u16, order: Order) -> bool
-    requires { ⌜ (tables ≤ 8) × (order .count ≤ 7) ⌝ }
+    requires { ⌜ (tables ≤ mostTables) × (order .count ≤ mostPairs) ⌝ }
     ensures { λ r. ⌜ r ≡ wellBuilt tables (orderIn order) ⌝ }
 {
     if order.count + 1 != (tables as usize) {
@@ -77,20 +77,19 @@ fn well_built(tables: u16, order: Order) -> bool
 
 // Question 5, of J lines of which there may be more than are kept.
 pub fn joins_built(q: StoredQuery) -> bool
-    requires { ⌜ q .«table_count» ≤ 8 ⌝ }
-    ensures { λ r. ⌜ r ≡ (leb (q .«join_count») 7 && question5 (queryIn q)) ⌝ }
+    requires { ⌜ q .«table_count» ≤ mostTables ⌝ }
+    ensures { λ r. ⌜ r ≡ (leb (q .«join_count») mostJoins && question5 (queryIn q)) ⌝ }
 {
     if JOINS < (q.join_count as usize) {
         return false;
     }
-    let lines = tree::lines(q);
-    well_built(q.table_count, order::of_lines(lines))
+    well_built(q.table_count, order::of_lines(q))
 }
 
 // Question 9, of P lines of which there may be more than are kept.
 pub fn order_built(q: StoredQuery) -> bool
-    requires { ⌜ q .«table_count» ≤ 8 ⌝ }
-    ensures { λ r. ⌜ r ≡ (leb (q .«pair_count») 7 && question9 (queryIn q)) ⌝ }
+    requires { ⌜ q .«table_count» ≤ mostTables ⌝ }
+    ensures { λ r. ⌜ r ≡ (leb (q .«pair_count») mostPairs && question9 (queryIn q)) ⌝ }
 {
     if q.pair_count == 0 {
         return true;

@@ -1,30 +1,31 @@
 // Question 6: the columns and the tables that conditions name.
-use crate::tree;
 use cells::condition::Condition;
 use cells::condition::Side;
+use cells::limits::NODES;
+use cells::limits::WRITTEN;
 use plan::bits;
+use plan::order;
 use plan::query::StoredQuery;
-use plan::query::WRITTEN;
 use plan::sets;
-use plan::sets::NODES;
 ghost use mathlib.Core.Path.{_≡_};
 ghost use mathlib.Core.Bool.{_&&_};
 ghost use Prim.Native.Nat.{_≤_};
 ghost use lib.Dec.{leb};
+ghost use Rattle.cells.specs.Limits.{mostTables, mostJoins, mostWritten, mostConditions};
 ghost use Rattle.rows.specs.Lists.{range, all};
 ghost use Rattle.plan.specs.Report.{conditionAt};
 ghost use Rattle.plan.specs.Stored.{queryIn};
 ghost use Rattle.plan.specs.Questions.{question6};
 ghost use Rattle.questions.specs.ConditionWords.{columnUnder, sideUnder, conditionUnder, numberFits, joinFits};
 
-// The condition of a number; where there is none, one with no operator.
+// The condition of a number; where there is none, one with no operator and of no table.
 pub(crate) fn condition_at(q: StoredQuery, k: usize) -> Condition
-    requires { ⌜ q .«condition_count» ≤ 64 ⌝ }
+    requires { ⌜ q .«condition_count» ≤ mostConditions ⌝ }
     ensures { λ r. ⌜ r ≡ conditionAt (queryIn q) k ⌝ }
 {
     if (q.condition_count as usize) <= k {
         return Condition {
-            table: 0,
+            table: 65535,
             column: 0,
             operator: 0,
             side: Side::Constant(0),
@@ -35,7 +36,7 @@ pub(crate) fn condition_at(q: StoredQuery, k: usize) -> Condition
 
 // Whether a column exists, of a table among these.
 fn column_exists(q: StoredQuery, tables: u64, table: u16, column: u16) -> bool
-    requires { ⌜ q .«table_count» ≤ 8 ⌝ }
+    requires { ⌜ q .«table_count» ≤ mostTables ⌝ }
     ensures { λ r. ⌜ r ≡ columnUnder (queryIn q) tables table column ⌝ }
 {
     if q.table_count <= table {
@@ -52,7 +53,7 @@ fn column_exists(q: StoredQuery, tables: u64, table: u16, column: u16) -> bool
 
 // Whether a condition's second side names an existing column of another table among these.
 fn side_exists(q: StoredQuery, tables: u64, table: u16, side: Side) -> bool
-    requires { ⌜ q .«table_count» ≤ 8 ⌝ }
+    requires { ⌜ q .«table_count» ≤ mostTables ⌝ }
     ensures { λ r. ⌜ r ≡ sideUnder (queryIn q) tables table side ⌝ }
 {
     match side {
@@ -68,7 +69,7 @@ fn side_exists(q: StoredQuery, tables: u64, table: u16, side: Side) -> bool
 
 // Whether a condition names existing columns of tables among these, a C line two different tables.
 fn condition_fits(q: StoredQuery, tables: u64, c: Condition) -> bool
-    requires { ⌜ q .«table_count» ≤ 8 ⌝ }
+    requires { ⌜ q .«table_count» ≤ mostTables ⌝ }
     ensures { λ r. ⌜ r ≡ conditionUnder (queryIn q) tables c ⌝ }
 {
     if !column_exists(q, tables, c.table, c.column) {
@@ -80,7 +81,7 @@ fn condition_fits(q: StoredQuery, tables: u64, c: Condition) -> bool
 
 // The same of each of the `count` conditions from number `first` on.
 fn line_fits(q: StoredQuery, tables: u64, first: u16, count: u16) -> bool
-    requires { ⌜ (q .«table_count» ≤ 8) × (q .«condition_count» ≤ 64) ⌝ }
+    requires { ⌜ (q .«table_count» ≤ mostTables) × (q .«condition_count» ≤ mostConditions) ⌝ }
     ensures { λ r. ⌜ r ≡ all (numberFits (queryIn q) tables) (range first count) ⌝ }
 {
     let end = (first as usize) + (count as usize);
@@ -97,7 +98,7 @@ fn line_fits(q: StoredQuery, tables: u64, first: u16, count: u16) -> bool
 
 // The same of every J line's conditions and the tables under it.
 fn lines_fit(q: StoredQuery, nodes: [u64; NODES]) -> bool
-    requires { ⌜ (q .«table_count» ≤ 8) × (q .«join_count» ≤ 7) × (q .«condition_count» ≤ 64) ⌝ }
+    requires { ⌜ (q .«table_count» ≤ mostTables) × (q .«join_count» ≤ mostJoins) × (q .«condition_count» ≤ mostConditions) ⌝ }
     ensures { λ r. ⌜ r ≡ all (joinFits (queryIn q) nodes) (queryIn q .joins) ⌝ }
 {
     let n = q.join_count as usize;
@@ -115,11 +116,11 @@ fn lines_fit(q: StoredQuery, nodes: [u64; NODES]) -> bool
 
 // Question 6, of conditions of which there may be more than are kept.
 pub fn conditions_fit(q: StoredQuery) -> bool
-    requires { ⌜ (q .«table_count» ≤ 8) × (q .«join_count» ≤ 7) ⌝ }
-    ensures { λ r. ⌜ r ≡ (leb (q .«condition_count») 32 && question6 (queryIn q)) ⌝ }
+    requires { ⌜ (q .«table_count» ≤ mostTables) × (q .«join_count» ≤ mostJoins) ⌝ }
+    ensures { λ r. ⌜ r ≡ (leb (q .«condition_count») mostWritten && question6 (queryIn q)) ⌝ }
 {
     if WRITTEN < (q.condition_count as usize) {
         return false;
     }
-    lines_fit(q, tree::nodes(q))
+    lines_fit(q, order::line_nodes(q))
 }

@@ -2,4 +2,3 @@
 pub mod built;
 pub mod conditions;
 pub mod crossing;
-pub mod tree;

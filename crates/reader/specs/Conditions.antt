@@ -3,19 +3,18 @@
 use mathlib.Core.Path.{_≡_, refl, sym, ap, _∙_}
 use mathlib.Core.Bool.{Bool, true, false}
 use mathlib.Core.Logic.{inl}
-use mathlib.Core.List.{List, [], _∷_, _++_}
-use Prim.Native.Nat.{ℕ, zero, suc, _+_, _-_, _<_, _≤_}
+use mathlib.Core.List.{List}
+use Prim.Native.Nat.{ℕ, zero, suc, _-_, _<_, _≤_}
 use native.Mathlib.Omega.{arith}
 use lib.Dec.{ltb}
-use lib.IntN.{ℤ}
-use lib.ListN.{length, take, drop, getD, replicate, length-replicate, List·getD-eq-default}
+use lib.ListN.{length, getD, replicate, length-replicate, List·getD-eq-default}
 use lib.Seq.{sets, getD-take}
 use borrow.Author.Tests.{ltb-true, ltb-false}
 use Rattle.cells.specs.Row.{Row}
 use Rattle.cells.specs.Condition.{Cells, cellIn, sideIn, trueIn}
 use Rattle.cells.specs.OperatorLaws.{holds-outside}
 use Rattle.cells.specs.declared.condition.Condition.{Condition}
-use Rattle.cells.specs.declared.condition.Side.the-variants.{Column, Constant}
+use Rattle.cells.specs.declared.condition.Side.the-variants.{Column}
 use Rattle.plan.specs.Report.{noCondition, queryOf, conditionAt}
 use Rattle.text.specs.Lines.{Line}
 use Rattle.text.specs.Reading.{conditionsOf, reportOf}

@@ -1,10 +1,10 @@
 -- The joins that are kept of a text: their places in the array, and their conditions within the text's. Assumes nothing.
-use mathlib.Core.Path.{_≡_, refl, sym, ap, _∙_, subst}
+use mathlib.Core.Path.{_≡_, sym, ap, _∙_, subst}
 use mathlib.Core.List.{List, [], _∷_}
-use Prim.Native.Nat.{ℕ, zero, suc, _+_, _-_, _<_, _≤_}
+use Prim.Native.Nat.{ℕ, suc, _+_, _-_, _<_, _≤_}
 use native.Mathlib.Omega.{arith}
-use lib.ListN.{length, take, getD, set, length-map, length-set}
-use lib.Seq.{sets, length-sets, getD-take}
+use lib.ListN.{length, getD, set, length-map, length-set}
+use lib.Seq.{length-sets, getD-take}
 use Rattle.rows.specs.ListLaws.{_isIn_, here, there, getD-isIn}
 use Rattle.plan.specs.Stored.{joinIn}
 use Rattle.plan.specs.declared.query.StoredJoin.{StoredJoin}

@@ -2,8 +2,8 @@
 use crate::tables;
 use cells::condition::Condition;
 use cells::condition::Side;
-use plan::query::CONDITIONS;
-use plan::query::JOINS;
+use cells::limits::CONDITIONS;
+use cells::limits::JOINS;
 use plan::query::StoredJoin;
 use rows::kind::Kind;
 ghost use mathlib.Core.Path.{_≡_};

@@ -1,5 +1,5 @@
 // What the P lines read so far say.
-use plan::query::PAIRS;
+use cells::limits::PAIRS;
 use plan::query::StoredPair;
 ghost use mathlib.Core.Path.{_≡_};
 ghost use Prim.Native.Nat.{_+_, _<_};

@@ -1,8 +1,7 @@
 -- Laws of what is made ready of a query, by the tests that the code makes. Assumes nothing.
-use mathlib.Core.Path.{_≡_, refl, sym, ap, _∙_}
+use mathlib.Core.Path.{_≡_, sym, ap, _∙_}
 use mathlib.Core.Bool.{Bool, true, false, _&&_}
-use mathlib.Core.List.{List, []}
-use mathlib.Core.Option.{none}
+use mathlib.Core.List.{List}
 use Prim.Native.Nat.{ℕ, _≤_}
 use lib.Dec.{T, leb}
 use lib.IntN.{ℤ}
@@ -11,8 +10,8 @@ use mir.Facts.{and-yes}
 use Rattle.cells.specs.Limits.{mostPairs}
 use Rattle.plan.specs.Report.{Report, queryOf, joinOrder}
 use Rattle.plan.specs.Plan.{groundOf}
-use Rattle.plan.specs.Asking.{firstNo, orderQuestions}
-use Rattle.plan.specs.AskingLaws.{asked-no, asked-yes}
+use Rattle.plan.specs.Asking.{orderQuestions}
+use Rattle.plan.specs.AskingLaws.{none-left, asked-no, asked-yes}
 use Rattle.plan.specs.Counted.{Counted}
 use Rattle.plan.specs.Sets.{blankingSets}
 use Rattle.plan.specs.Stands.{Stands}
@@ -27,11 +26,6 @@ use Rattle.questions.specs.Kept.{room-of}
 use Rattle.questions.specs.Whole.{whole-nine, whole-query}
 use Rattle.ready.specs.Ready.{turnedAway, readyFor, readyBy, QueryPlanned}
 use Rattle.ready.specs.declared.prepared.Prepared.{Prepared}
-
--- no question is left
-none-left : {A : Type 0} (a : A) → firstNo [] a ≡ none
-unfolding firstNo
-none-left a = refl
 
 module _ (q : StoredQuery) {b : Bool} (e : b ≡ (leb (q .«pair_count») mostPairs && question9 (queryIn q))) where
   nine : {cells : List ℤ} {r : Report} → Stands q cells r → {y : Bool} → b ≡ y → question9 (queryOf r) ≡ y

@@ -1,12 +1,14 @@
 -- The lines of the print: document 01, "The whole print of one report". Assumes nothing.
-use mathlib.Core.Bool.{Bool, true, false}
+use mathlib.Core.Bool.{true, false}
 use mathlib.Core.List.{List, [], _∷_, _++_, map, flatMap}
-use Prim.Native.Nat.{ℕ, zero, suc, _+_, _^_, _/_, _%_}
+use Prim.Native.Nat.{ℕ, zero, suc, _+_, _/_, _%_}
 use lib.Dec.{eqb, leb}
 use lib.ListN.{getD}
 use Rattle.cells.specs.Choice.{if_then_else_}
+use Rattle.cells.specs.Limits.{mostConditions}
 use Rattle.cells.specs.Row.{Row, blankRow}
 use Rattle.rows.specs.Lists.{range, keep}
+use Rattle.plan.specs.Bits.{hasBit}
 use Rattle.plan.specs.declared.step.Step.{Step}
 use Rattle.text.specs.Bytes.{Bytes, bytes, tab, lineFeed}
 
@@ -27,11 +29,8 @@ printFields [] = lineFeed ∷ []
 printFields (f ∷ fs) = (tab ∷ f) ++ printFields fs
 
 -- the numbers of the bits that are set
-unfoldable pub hasBit : ℕ → ℕ → Bool
-hasBit m k = eqb (m / 2 ^ k % 2) 1
-
 unfoldable pub bitNumbers : ℕ → List ℕ
-bitNumbers m = keep (hasBit m) (range 0 64)
+bitNumbers m = keep (hasBit m) (range 0 mostConditions)
 
 -- "a row number or blank (.. `-` in text)"
 unfoldable pub printEntry : ℕ → Bytes

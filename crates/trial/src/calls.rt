@@ -1,31 +1,13 @@
 // One call of each exported routine, and its line: the name, the routine, the answer, and whether lent memory is as document 01 wants it.
+use crate::listed;
+use crate::listed::Listed;
 use crate::memory;
 use engine::answer::Answer;
-use engine::planned::Planned;
+use engine::direct::Found;
 use print::whole;
 use print::whole::Printed;
-ghost use Prim.Native.Nat.{_≤_};
-
-// 1 for the letter of a line that opens a table.
-fn opens(b: u8) -> usize
-    ensures { λ r. ⌜ r ≤ 1 ⌝ }
-{
-    if b == b'T' {
-        return 1;
-    }
-    0
-}
-
-// How many tables a text has that a routine answers: the letter stands nowhere else in it.
-fn tables_in(text: &[u8]) -> usize {
-    let mut n = 0;
-    let mut i = 0;
-    while i < text.len() {
-        n += opens(text[i]);
-        i += 1;
-    }
-    n
-}
+ghost use Prim.Native.Nat.{_+_, _≤_};
+ghost use Rattle.cells.specs.Limits.{stepListRoom};
 
 // The count of rows, or E and the number of the question.
 fn say_answer(answer: Answer) {
@@ -62,66 +44,76 @@ fn put_print(p: Printed, out: &[u8]) {
 }
 
 // The print of an answer of the report.
-fn show_report(p: Planned, result: &[u16], out: &mut [u8]) {
-    let answer = p.answer;
+fn show_report(l: Listed, result: &[u16], out: &mut [u8]) {
+    let r = l.reply;
+    let answer = r.answer;
     let Answer::Rows(rows) = answer else {
         return;
     };
-    let sets = p.sets;
-    let list = p.plan;
-    let steps = list.steps;
-    let printed = whole::print_report(out, sets, p.tables, steps, list.count, result, rows);
+    let facts = r.facts;
+    let list = l.steps;
+    let steps = memory::first_steps(list);
+    let printed = whole::print_report(out, facts, steps, r.count, result, rows);
     put_print(printed, out);
 }
 
 // The print of an answer of the direct reading.
-fn show_direct(answer: Answer, tables: usize, result: &[u16], out: &mut [u8]) {
+fn show_direct(f: Found, result: &[u16], out: &mut [u8]) {
+    let answer = f.answer;
     let Answer::Rows(rows) = answer else {
         return;
     };
-    let printed = whole::print_direct(out, result, rows, tables);
+    let printed = whole::print_direct(out, result, rows, f.tables);
     put_print(printed, out);
 }
 
-// Where the zero steps begin: behind an answer's plan; after a refusal there is none.
-fn plan_end(answer: Answer, count: usize) -> usize {
-    match answer {
-        Answer::Rows(_) => count,
-        Answer::Refused(_) => 0,
-    }
-}
-
-// Whether lent memory and the steps behind the plan are as document 01 wants them.
-fn report_wanted(p: Planned, text: &[u8], cells: &[i32], work: &[u16], result: &[u16]) -> bool {
-    let answer = p.answer;
-    let list = p.plan;
-    let steps = list.steps;
-    if !memory::zero_steps(steps, plan_end(answer, list.count)) {
+// Whether lent memory and the list, of which n steps were lent, are as document 01 wants them.
+fn report_wanted(l: Listed, n: usize, cells: &[i32], work: &[u16], result: &[u16]) -> bool
+    requires { ⌜ n ≤ stepListRoom + 4 ⌝ }
+{
+    let r = l.reply;
+    let answer = r.answer;
+    let facts = r.facts;
+    let list = l.steps;
+    if !memory::list_as_wanted(answer, r.count, list, n) {
         return false;
     }
-    memory::as_wanted(answer, tables_in(text), cells, work, result)
+    memory::as_wanted(answer, facts.tables, cells, work, result)
+}
+
+// The report, with the pattern in all that is lent.
+fn run_report(
+    text: &[u8],
+    n: usize,
+    cells: &mut [i32],
+    work: &mut [u16],
+    result: &mut [u16],
+) -> Listed
+    requires { ⌜ n ≤ stepListRoom + 4 ⌝ }
+{
+    memory::fill(cells, work, result);
+    listed::report_listed(text, cells, work, result, memory::marked_list(), n)
 }
 
 fn report_call(
     name: &[u8],
     text: &[u8],
     shown: bool,
+    n: usize,
     cells: &mut [i32],
     work: &mut [u16],
     result: &mut [u16],
     out: &mut [u8],
-) {
-    memory::fill(cells, work, result);
-    let p = engine::report::report(text, cells, work, result);
-    let answer = p.answer;
-    say(
-        name,
-        b" report ",
-        answer,
-        report_wanted(p, text, cells, work, result),
-    );
+)
+    requires { ⌜ n ≤ stepListRoom + 4 ⌝ }
+{
+    let l = run_report(text, n, cells, work, result);
+    let r = l.reply;
+    let answer = r.answer;
+    let wanted = report_wanted(l, n, cells, work, result);
+    say(name, b" report ", answer, wanted);
     if shown {
-        show_report(p, result, out);
+        show_report(l, result, out);
     }
 }
 
@@ -135,29 +127,29 @@ fn direct_call(
     out: &mut [u8],
 ) {
     memory::fill(cells, work, result);
-    let answer = engine::direct::direct(text, cells, work, result);
-    let tables = tables_in(text);
-    say(
-        name,
-        b" direct ",
-        answer,
-        memory::as_wanted(answer, tables, cells, work, result),
-    );
+    let f = engine::direct::find(text, cells, work, result);
+    let answer = f.answer;
+    let wanted = memory::as_wanted(answer, f.tables, cells, work, result);
+    say(name, b" direct ", answer, wanted);
     if shown {
-        show_direct(answer, tables, result, out);
+        show_direct(f, result, out);
     }
 }
 
-// Both routines, each with all that is lent filled with the pattern; where it is to be shown, each answer's print follows its line.
+// Both routines, each with all that is lent filled with the pattern, the report with a list of n steps; where it is to be shown, each
+// answer's print follows its line.
 pub fn both(
     name: &[u8],
     text: &[u8],
     shown: bool,
+    n: usize,
     cells: &mut [i32],
     work: &mut [u16],
     result: &mut [u16],
     out: &mut [u8],
-) {
-    report_call(name, text, shown, cells, work, result, out);
+)
+    requires { ⌜ n ≤ stepListRoom + 4 ⌝ }
+{
+    report_call(name, text, shown, n, cells, work, result, out);
     direct_call(name, text, shown, cells, work, result, out);
 }

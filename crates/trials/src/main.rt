@@ -1,16 +1,21 @@
-// Texts from standard input. Each is a name, `#`, the text and `~`; for each both exported routines are called, and each call has its
+// Texts from standard input. Each is a name, `#`, the text and `$`; for each both exported routines are called, and each call has its
 // line. Where a name begins with `=`, the answers are printed too. What follows that mark, or begins the name, chooses the lent memory:
-// `-` and c, w or r, the cell run, the work buffer or the result buffer one number shorter than question 1 wants; `+`, all of them
-// larger; anything else, what question 1 wants.
-use print::whole;
+// `-` and c, w, r or s, the cell run, the work buffer, the result buffer or the step list one shorter than question 1 wants; `+`, all
+// of them larger; anything else, what question 1 wants.
+use cells::limits::CELL_ROOM;
+use cells::limits::PRINT_ROOM;
+use cells::limits::RESULT_ROOM;
+use cells::limits::STEP_ROOM;
+use cells::limits::WORK_ROOM;
 use text::part;
 use trial::calls;
+use trial::listed::LIST;
 ghost use Prim.Native.Nat.{_≤_};
 
 // What ends a name, and what ends a text.
 const NAME: u8 = 35;
 
-const TEXT: u8 = 126;
+const TEXT: u8 = 36;
 
 // The marks of a name: the answers are printed; larger memory is lent; memory that is too short is lent.
 const PRINTED: u8 = 61;
@@ -27,58 +32,46 @@ struct Lent {
     cells: usize,
     work: usize,
     result: usize,
+    steps: usize,
 }
 
-// What question 1 wants.
-const CELLS: usize = 4096;
-
-const WORK: usize = 16384;
-
-const RESULT: usize = 2048;
-
-// How much more is lent where it is larger.
-const MORE: usize = 100;
-
-// One number too few, by the letter of the memory.
-fn shorter(letter: u8) -> Lent {
-    if letter == b'c' {
-        return Lent {
-            cells: CELLS - 1,
-            work: WORK,
-            result: RESULT,
-        };
+// 1 where a letter is that of a memory.
+fn one_at(letter: u8, own: u8) -> usize
+    ensures { λ r. ⌜ r ≤ 1 ⌝ }
+{
+    if letter == own {
+        return 1;
     }
-    if letter == b'w' {
-        return Lent {
-            cells: CELLS,
-            work: WORK - 1,
-            result: RESULT,
-        };
-    }
+    0
+}
+
+// What question 1 wants, and one less of the memory that has this letter.
+fn wanted(letter: u8) -> Lent {
     Lent {
-        cells: CELLS,
-        work: WORK,
-        result: RESULT - 1,
+        cells: CELL_ROOM - one_at(letter, b'c'),
+        work: WORK_ROOM - one_at(letter, b'w'),
+        result: RESULT_ROOM - one_at(letter, b'r'),
+        steps: STEP_ROOM - one_at(letter, b's'),
     }
 }
+
+// How many more numbers are lent where it is larger.
+const MORE: usize = 100;
 
 // What a mark and the letter behind it choose.
 fn sizes_of(mark: u8, letter: u8) -> Lent {
-    if mark == SHORTER {
-        return shorter(letter);
-    }
     if mark == LARGER {
         return Lent {
-            cells: CELLS + MORE,
-            work: WORK + MORE,
-            result: RESULT + MORE,
+            cells: CELL_ROOM + MORE,
+            work: WORK_ROOM + MORE,
+            result: RESULT_ROOM + MORE,
+            steps: LIST,
         };
     }
-    Lent {
-        cells: CELLS,
-        work: WORK,
-        result: RESULT,
+    if mark == SHORTER {
+        return wanted(letter);
     }
+    wanted(0)
 }
 
 // A byte; 0 behind the end.
@@ -120,10 +113,12 @@ fn lend(
     let c = least(s.cells, cells.len());
     let w = least(s.work, work.len());
     let r = least(s.result, result.len());
+    let n = least(s.steps, LIST);
     calls::both(
         name,
         report,
         shown,
+        n,
         &mut cells[..c],
         &mut work[..w],
         &mut result[..r],
@@ -162,10 +157,10 @@ fn trials(input: &[u8], cells: &mut [i32], work: &mut [u16], result: &mut [u16],
 
 fn main() {
     let mut input = [0u8; INPUT];
-    let mut cells = [0i32; CELLS + MORE];
-    let mut work = [0u16; WORK + MORE];
-    let mut result = [0u16; RESULT + MORE];
-    let mut out = [0u8; whole::PRINT_ROOM];
+    let mut cells = [0i32; CELL_ROOM + MORE];
+    let mut work = [0u16; WORK_ROOM + MORE];
+    let mut result = [0u16; RESULT_ROOM + MORE];
+    let mut out = [0u8; PRINT_ROOM];
     let n = io::read_full(0, &mut input);
     trials(&input[..n], &mut cells, &mut work, &mut result, &mut out);
 }

@@ -64,11 +64,13 @@ fn blank_is_unequal_to_nothing() {
     let rows = "R|0|0 R|1|-";
     let print = ["S|0 S|1|0 M|L|0|1|2|0", rows].join(" ");
     prints("T|1 D|6 D|- T|1 D|5 J|L|0|1 C|0|0|<>|1|0", &print, rows);
+    prints("T|2 D|-|1 T|1 D|1 J|L|0|1 C|0|1|=|1|0 K|0|0|<>|5", "S|0 S|1|0|1 M|L|0|1|1|0 B|1|1 Z R|0|-", "R|0|-");
 }
 
 #[test]
 fn the_lowest_cell() {
-    prints("T|1 D|-2147483647", "S|0 R|0", "R|0");
+    let input = "T|1 D|-2147483647 T|1 D|-2147483646 J|I|0|1 C|0|0|<|1|0 K|0|0|=|-2147483647";
+    prints(input, "S|0|0|1 S|1|0|1 M|I|0|1|1|0 B|0|1 B|1|1 Z R|0|0", "R|0|0");
     refused("T|1 D|-2147483648", 2);
 }
 

@@ -14,23 +14,26 @@ least-requires-2 c κs = search needs
 least-requires-3 : tie.Need-least-requires-3
 least-requires-3 c κs = search needs
 
+least-requires-4 : tie.Need-least-requires-4
+least-requires-4 c κs = search needs
+
 slice-relend-prefix-both : tie.Need-slice-relend-prefix-both
 slice-relend-prefix-both c = search needs
 
 slice-aggregate-both : tie.Need-slice-aggregate-both
-slice-aggregate-both c = sym (length-take-le _ _ (c .before .before .before .least .ensures))
+slice-aggregate-both c = sym (length-take-le _ _ (c .before .before .before .before .least .ensures))
 
 slice-relend-prefix-both-2 : tie.Need-slice-relend-prefix-both-2
 slice-relend-prefix-both-2 c = search needs
 
 slice-aggregate-both-2 : tie.Need-slice-aggregate-both-2
-slice-aggregate-both-2 c = sym (length-take-le _ _ (c .before .before .before .least2 .ensures))
+slice-aggregate-both-2 c = sym (length-take-le _ _ (c .before .before .before .before .least2 .ensures))
 
 slice-relend-prefix-both-3 : tie.Need-slice-relend-prefix-both-3
 slice-relend-prefix-both-3 c = search needs
 
 slice-aggregate-both-3 : tie.Need-slice-aggregate-both-3
-slice-aggregate-both-3 c = sym (length-take-le _ _ (c .before .before .before .least3 .ensures))
+slice-aggregate-both-3 c = sym (length-take-le _ _ (c .before .before .before .before .least3 .ensures))
 
 both-requires : tie.Need-both-requires
 both-requires c κs = search needs
@@ -57,6 +60,7 @@ lend-spec =
     least-requires
     least-requires-2
     least-requires-3
+    least-requires-4
     slice-relend-prefix-both
     slice-aggregate-both
     slice-relend-prefix-both-2

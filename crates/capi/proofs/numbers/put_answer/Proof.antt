@@ -32,8 +32,8 @@ returns c =
     let s = c .before .before in
     let m = s .before .before .before .before in
     let k = m .before .before .before .before in
-    let r = k .before .before in
-    written-as (answer-parts _ _ _ _ _ (r .rows-of .ensures) (r .before .status-of .ensures)) (omega arith)
+    let r = k .before .before .before in
+    written-as (answer-parts _ _ _ _ (r .rows-of .ensures) (r .before .status-of .ensures)) (omega arith)
     (written-then (written-then (k .put-counts .ensures) (m .put-sets .ensures)) (s .put-steps .ensures))
 
 pub put-answer-spec : {M : Type 1} → statement M

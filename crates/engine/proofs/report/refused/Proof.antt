@@ -1,13 +1,15 @@
--- `engine::report::refused` meets its contract: no set and no step. Assumes nothing.
-use mathlib.Core.Path.{refl}
-use Rattle.engine.specs.Calls.{noSets}
+-- `engine::report::refused` meets its contract: no table and no step. Assumes nothing.
 use Rattle.engine.specs.Preparing.{refusedReply}
+use borrow.Author.Needs.{needs}
 use Rattle.engine.proofs.report.refused.Statement.{statement}
 use Rattle.engine.proofs.report.refused.Tie as tie
 
+no-facts-requires : tie.Need-no-facts-requires
+no-facts-requires c κs = search needs
+
 returns : tie.Need-returns
-unfolding refusedReply noSets
-returns c = refl
+unfolding refusedReply
+returns c = rw (c .no-facts .ensures)
 
 pub refused-spec : {M : Type 1} → statement M
-refused-spec = tie.close (tie.spec returns)
+refused-spec = tie.close (tie.spec no-facts-requires returns)

@@ -1,5 +1,5 @@
 -- `print::field::write_bit` meets its contract: a bit that is set by `bit-set`, another by `bit-clear`. Assumes nothing.
-use mathlib.Core.Path.{sym}
+use mathlib.Core.Path.{sym, _∙_}
 use native.Mathlib.Omega.{arith}
 use Rattle.print.specs.Output.{written-as, written-none}
 use Rattle.print.specs.Fields.{bit-set, bit-clear}
@@ -7,8 +7,8 @@ use borrow.Author.Needs.{needs}
 use Rattle.print.proofs.field.write_bit.Statement.{statement}
 use Rattle.print.proofs.field.write_bit.Tie as tie
 
-shr-if1 : tie.Need-shr-if1
-shr-if1 c = search needs
+member-requires : tie.Need-member-requires
+member-requires c κs = search needs
 
 write-number-requires : tie.Need-write-number-requires
 write-number-requires c κs = search needs
@@ -19,10 +19,11 @@ same-length c = search needs
 returns : tie.Need-returns
 returns c =
     let d = c .before .before in
-    written-as (sym (bit-set _ _ (d .before .before .if1 .taken))) (omega arith) (d .write-number .ensures)
+    let i = d .before .before in
+    written-as (sym (bit-set _ _ (sym (i .before .member .ensures) ∙ i .if1 .taken))) (omega arith) (d .write-number .ensures)
 
 returns-2 : tie.Need-returns-2
-returns-2 c = written-none (bit-clear _ _ (c .if1 .left))
+returns-2 c = written-none (bit-clear _ _ (sym (c .before .member .ensures) ∙ c .if1 .left))
 
 pub write-bit-spec : {M : Type 1} → statement M
-write-bit-spec = tie.close (tie.spec shr-if1 write-number-requires same-length returns returns-2)
+write-bit-spec = tie.close (tie.spec member-requires write-number-requires same-length returns returns-2)

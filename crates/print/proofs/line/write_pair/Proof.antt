@@ -26,6 +26,9 @@ cast-write-number-2 c = search needs
 write-number-requires-2 : tie.Need-write-number-requires-2
 write-number-requires-2 c κs = search needs
 
+cast-write-end : tie.Need-cast-write-end
+cast-write-end c = search needs
+
 write-end-requires : tie.Need-write-end-requires
 write-end-requires c κs = search needs
 
@@ -36,7 +39,7 @@ returns : tie.Need-returns
 unfolding bytes
 returns c =
     let e = c .before .before in
-    let m = e .before .before .before .before in
+    let m = e .before .before .before .before .before in
     let n = m .before .before .before .before .before in
     let k = n .before .before .before .before .before in
     let p = k .before .before .before .before in
@@ -56,6 +59,7 @@ write-pair-spec =
     write-number-requires
     cast-write-number-2
     write-number-requires-2
+    cast-write-end
     write-end-requires
     same-length
     returns)

@@ -24,9 +24,6 @@ loop-holds : tie.Need-loop-holds Inv-loop μ-loop
 unfolding upTo
 loop-holds c = (omega arith, refl, written-none refl)
 
-cast-write-table : tie.Need-cast-write-table Inv-loop μ-loop
-cast-write-table c = search needs
-
 mul-write-table : tie.Need-mul-write-table Inv-loop μ-loop
 mul-write-table c = search needs
 
@@ -71,7 +68,6 @@ write-sets-spec =
     Inv-loop
     μ-loop
     loop-holds
-    cast-write-table
     mul-write-table
     array-read-write-table
     write-table-requires

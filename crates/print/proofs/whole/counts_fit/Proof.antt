@@ -1,29 +1,18 @@
--- `print::whole::counts_fit` meets its contract: one law of PrintedLaws for each way out; the product fits. Assumes nothing.
-use mathlib.Core.Path.{sym}
-use Prim.Native.Nat.{_*_, _≤_}
-use native.Mathlib.Nat.{mul-le-mul}
-use native.Mathlib.Omega.{arith}
-use Rattle.print.specs.PrintedLaws.{many-tables, many-steps, many-rows, few}
+-- `print::whole::counts_fit` meets its contract: one law of PrintedLaws for each way out. Assumes nothing.
+use mathlib.Core.Path.{sym, _∙_}
+use Rattle.print.specs.PrintedLaws.{many-steps, few-steps}
+use borrow.Author.Needs.{needs}
 use Rattle.print.proofs.whole.counts_fit.Statement.{statement}
 use Rattle.print.proofs.whole.counts_fit.Tie as tie
 
 returns : tie.Need-returns
-returns c = sym (many-tables _ _ _ _ (c .if1 .taken))
+returns c = sym (many-steps _ _ _ _ (c .if1 .taken))
+
+rows-fit-requires : tie.Need-rows-fit-requires
+rows-fit-requires c κs = search needs
 
 returns-2 : tie.Need-returns-2
-returns-2 c = sym (many-steps _ _ _ _ (c .before .if1 .left) (c .if2 .taken))
-
-returns-3 : tie.Need-returns-3
-returns-3 c = sym (many-rows _ _ _ _ (c .before .before .if1 .left) (c .before .if2 .left) (c .if3 .taken))
-
-mul-result : tie.Need-mul-result
-mul-result c =
-    let a = c .before .before .before .args in
-    let p : a .rows * a .tables ≤ 256 * 8 = mul-le-mul (c .if3 .left) (c .before .before .if1 .left) in
-    omega arith
-
-returns-4 : tie.Need-returns-4
-returns-4 c = sym (few _ _ _ _ (c .before .before .if1 .left) (c .before .if2 .left) (c .if3 .left))
+returns-2 c = c .rows-fit .ensures ∙ sym (few-steps _ _ _ _ (c .before .if1 .left))
 
 pub counts-fit-spec : {M : Type 1} → statement M
-counts-fit-spec = tie.close (tie.spec returns returns-2 returns-3 mul-result returns-4)
+counts-fit-spec = tie.close (tie.spec returns rows-fit-requires returns-2)

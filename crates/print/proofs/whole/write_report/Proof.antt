@@ -1,4 +1,4 @@
--- `print::whole::write_report` meets its contract: its parts one behind the other, in the room of every print. Assumes nothing.
+-- `print::whole::write_report` meets its contract: its parts one behind the other, in the room of an answer. Assumes nothing.
 use mathlib.Core.Path.{refl}
 use native.Mathlib.Omega.{arith}
 use Rattle.print.specs.Output.{written-as, written-then}
@@ -25,7 +25,8 @@ returns c =
     let r = c .before .before in
     let s = r .before .before .before .before in
     let t = s .before .before .before .before in
-    written-as refl (omega arith) (written-then (written-then (t .write-sets .ensures) (s .write-steps .ensures)) (r .write-rows .ensures))
+    let h = t .before .before .before .before .before .pre .0 in
+    written-as refl (omega (arith, h .rows-fit .tables-few, h .rows-fit .rows-few, h .steps-few)) (written-then (written-then (t .write-sets .ensures) (s .write-steps .ensures)) (r .write-rows .ensures))
 
 pub write-report-spec : {M : Type 1} → statement M
 write-report-spec =

@@ -2,7 +2,6 @@
 use mathlib.Core.Path.{_≡_, sym, _∙_}
 use native.Mathlib.Omega.{arith}
 use lib.ListN.{length, length-map}
-use Rattle.questions.specs.TreeLines.{same-pairs}
 use Rattle.questions.specs.Kept.{too-many}
 use Rattle.questions.specs.BuiltQuestions.{joins-asked}
 use borrow.Author.Needs.{needs}
@@ -15,9 +14,6 @@ cast-if1 c = search needs
 returns : tie.Need-returns
 returns c = sym (too-many _ _ _ (c .if1 .taken))
 
-lines-requires : tie.Need-lines-requires
-lines-requires c κs = search needs
-
 of-lines-requires : tie.Need-of-lines-requires
 of-lines-requires c κs = search needs
 
@@ -27,12 +23,12 @@ well-built-requires c κs = search needs
 returns-2 : tie.Need-returns-2
 returns-2 c =
     let l = c .before .before in
-    let s = l .before .before .before in
+    let s = l .before .before in
     let q = s .args .q in
     let n : length (q .layout .columns) ≡ 8 = sym (length-map (q .layout .columns) _) ∙ s .good .0 .1 .1 .1 .0 .1 .1 .1 .1 .0 .1 .0 .1 in
-    c .well-built .ensures ∙ joins-asked q (omega arith) _ (c .before .of-lines .ensures .pairs ∙ same-pairs (l .lines .ensures)) (l .before .if1 .left)
+    c .well-built .ensures ∙ joins-asked q (omega arith) _ (c .before .of-lines .ensures .pairs) (l .if1 .left)
 
 pub joins-built-spec : {M : Type 1} → statement M
 joins-built-spec =
     tie.close
-    (tie.spec cast-if1 returns lines-requires of-lines-requires well-built-requires returns-2)
+    (tie.spec cast-if1 returns of-lines-requires well-built-requires returns-2)

@@ -14,8 +14,8 @@ cast-if1 c = search needs
 returns : tie.Need-returns
 returns c = sym (too-many _ _ _ (c .if1 .taken))
 
-nodes-requires : tie.Need-nodes-requires
-nodes-requires c κs = search needs
+line-nodes-requires : tie.Need-line-nodes-requires
+line-nodes-requires c κs = search needs
 
 lines-fit-requires : tie.Need-lines-fit-requires
 lines-fit-requires c κs = search needs
@@ -26,8 +26,8 @@ returns-2 c =
     let s = i .before .before in
     let q = s .args .q in
     let l : length (q .conditions) ≡ 64 = sym (length-map (q .conditions) _) ∙ s .good .0 .1 .1 .1 .1 .1 .1 .1 .0 .1 .0 .1 in
-    c .lines-fit .ensures ∙ fits-asked q (s .pre .0) (s .pre .1) l (i .if1 .left) _ (c .before .nodes .ensures)
+    c .lines-fit .ensures ∙ fits-asked q (s .pre .0) (s .pre .1) l (i .if1 .left) _ (c .before .line-nodes .ensures)
 
 pub conditions-fit-spec : {M : Type 1} → statement M
 conditions-fit-spec =
-    tie.close (tie.spec cast-if1 returns nodes-requires lines-fit-requires returns-2)
+    tie.close (tie.spec cast-if1 returns line-nodes-requires lines-fit-requires returns-2)

@@ -5,8 +5,8 @@ use borrow.Author.Needs.{needs}
 use Rattle.questions.proofs.crossing.joins_cross.Statement.{statement}
 use Rattle.questions.proofs.crossing.joins_cross.Tie as tie
 
-nodes-requires : tie.Need-nodes-requires
-nodes-requires c κs = search needs
+line-nodes-requires : tie.Need-line-nodes-requires
+line-nodes-requires c κs = search needs
 
 lines-cross-requires : tie.Need-lines-cross-requires
 lines-cross-requires c κs = search needs
@@ -14,7 +14,7 @@ lines-cross-requires c κs = search needs
 returns : tie.Need-returns
 returns c =
     let s = c .before .before in
-    c .lines-cross .ensures ∙ crosses-asked (s .args .q) (s .pre .0) (s .pre .1) _ (c .before .nodes .ensures)
+    c .lines-cross .ensures ∙ crosses-asked (s .args .q) (s .pre .0) (s .pre .1) _ (c .before .line-nodes .ensures)
 
 pub joins-cross-spec : {M : Type 1} → statement M
-joins-cross-spec = tie.close (tie.spec nodes-requires lines-cross-requires returns)
+joins-cross-spec = tie.close (tie.spec line-nodes-requires lines-cross-requires returns)

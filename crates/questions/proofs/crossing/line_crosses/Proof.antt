@@ -28,15 +28,15 @@ loop-holds c =
 condition-at-requires : tie.Need-condition-at-requires Inv-loop μ-loop
 condition-at-requires c κs = search needs
 
-side-crosses-requires : tie.Need-side-crosses-requires Inv-loop μ-loop
-side-crosses-requires c κs = search needs
+crosses-requires : tie.Need-crosses-requires Inv-loop μ-loop
+crosses-requires c κs = search needs
 
 returns : tie.Need-returns Inv-loop μ-loop
 returns c =
     let e = c .before .before in
     let l = e .before .before in
     sym (l .loop .inv .1 ∙ any-stop _ _ _ _ (range-cons _ _ (e .before .loop-test .taken))
-    (sym (number-crosses _ _ _ (e .condition-at .ensures) _ _) ∙ sym (c .before .side-crosses .ensures) ∙ c .if1 .taken))
+    (sym (number-crosses _ _ _ (e .condition-at .ensures) _ _) ∙ sym (c .before .crosses .ensures) ∙ c .if1 .taken))
 
 add-k : tie.Need-add-k Inv-loop μ-loop
 add-k c = search needs
@@ -50,7 +50,7 @@ loop-again c =
     let l = e .before .before in (
       search needs,
       l .loop .inv .1 ∙ any-turn _ _ _ _ (range-cons _ _ (e .before .loop-test .taken))
-          (sym (number-crosses _ _ _ (e .condition-at .ensures) _ _) ∙ sym (c .before .side-crosses .ensures) ∙ c .if1 .left),
+          (sym (number-crosses _ _ _ (e .condition-at .ensures) _ _) ∙ sym (c .before .crosses .ensures) ∙ c .if1 .left),
     )
 
 returns-2 : tie.Need-returns-2 Inv-loop μ-loop
@@ -65,7 +65,7 @@ line-crosses-spec =
     add-end
     loop-holds
     condition-at-requires
-    side-crosses-requires
+    crosses-requires
     returns
     add-k
     loop-less

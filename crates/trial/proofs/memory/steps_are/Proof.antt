@@ -1,14 +1,14 @@
--- `trial::memory::zero_steps` meets its contract: each turn looks at the next step. Assumes nothing.
+-- `trial::memory::steps_are` meets its contract: each turn looks at the next step. Assumes nothing.
 use borrow.Author.Needs.{needs}
 use Prim.Native.Nat.{_≤_, _-_}
-use Rattle.trial.proofs.memory.zero_steps.Statement.{statement}
-use Rattle.trial.proofs.memory.zero_steps.Tie as tie
+use Rattle.trial.proofs.memory.steps_are.Statement.{statement}
+use Rattle.trial.proofs.memory.steps_are.Tie as tie
 
 abbrev Inv-loop : tie.InvT-loop
-Inv-loop from steps k₀ k = k₀ ≤ k
+Inv-loop from to number steps k₀ k = k₀ ≤ k
 
 abbrev μ-loop : tie.MeasureT-loop
-μ-loop from steps k₀ k = 16 - k
+μ-loop from to number steps k₀ k = to - k
 
 loop-holds : tie.Need-loop-holds Inv-loop μ-loop
 loop-holds c = search needs
@@ -19,8 +19,8 @@ mul-s c = search needs
 array-copy-out-s : tie.Need-array-copy-out-s Inv-loop μ-loop
 array-copy-out-s c = search needs
 
-zero-step-requires : tie.Need-zero-step-requires Inv-loop μ-loop
-zero-step-requires c κs = search needs
+step-is-requires : tie.Need-step-is-requires Inv-loop μ-loop
+step-is-requires c κs = search needs
 
 returns : tie.Need-returns Inv-loop μ-loop
 returns c = search needs
@@ -37,8 +37,8 @@ loop-again c = search needs
 returns-2 : tie.Need-returns-2 Inv-loop μ-loop
 returns-2 c = search needs
 
-pub zero-steps-spec : {M : Type 1} → statement M
-zero-steps-spec =
+pub steps-are-spec : {M : Type 1} → statement M
+steps-are-spec =
     tie.close
     (tie.spec
     Inv-loop
@@ -46,7 +46,7 @@ zero-steps-spec =
     loop-holds
     mul-s
     array-copy-out-s
-    zero-step-requires
+    step-is-requires
     returns
     add-k
     loop-less
