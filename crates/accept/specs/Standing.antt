@@ -25,12 +25,12 @@ use Rattle.plan.specs.TableQuestions.{cellsInTables, tableFits, question3, ques
 use Rattle.plan.specs.declared.query.StoredQuery.{StoredQuery}
 use Rattle.text.specs.Bytes.{Bytes}
 use Rattle.text.specs.Lines.{Line}
-use Rattle.text.specs.Reading.{tablesOf, textLines, reportOf, readReport}
-use Rattle.text.specs.ReadingLaws.{read-report}
+use Rattle.text.specs.Reading.{earlyRows, tablesIn, textLines, reportOf, readReport}
+use Rattle.text.specs.ReadingLaws.{no-early-row, read-report}
 use Rattle.load.specs.Cells.{laid}
 use Rattle.load.specs.Flat.{flatRows, flatTables, text-cells}
-use Rattle.reader.specs.Query.{storedOf, done, stored-tables, stored-numbered, no-early-row}
-use Rattle.reader.specs.Outcome.{TextOutcome, turnedDown, says, readOutcome, outcomeOf, linesOutcome, lines-placed, runAfter, run-accepted}
+use Rattle.reader.specs.Query.{storedOf, done, stored-tables, stored-numbered}
+use Rattle.reader.specs.Outcome.{TextOutcome, turnedDown, says, readOutcome, outcomeOf, linesOutcome, runAfter, run-accepted}
 use Rattle.reader.specs.Whole as W
 use Rattle.reader.specs.Ranges.{joins-room, join-range}
 use Rattle.reader.specs.Conditions.{condition-seen}
@@ -42,7 +42,7 @@ use Rattle.accept.specs.Accept.{refusal, Kept}
 
 module _ (bs : Bytes) (ls : List Line) (read : textLines bs ≡ some ls) (yes : firstNo tableQuestions (reportOf ls) ≡ none) where
   abbrev ts : List Table
-  ts = (tablesOf ls) .1
+  ts = tablesIn ls
 
   even : question4 (reportOf ls) ≡ true
   unfolding tableQuestions
@@ -58,8 +58,8 @@ module _ (bs : Bytes) (ls : List Line) (read : textLines bs ≡ some ls) (yes : 
       let (x, y) = and-yes (leb 1 n) (leb n mostTables) b in
       (leb-yes x, leb-yes y, leb-yes c)
 
-  early : (tablesOf ls) .0 ≡ []
-  early = no-early-row 0 ls (λ z. omega arith) (lines-placed bs ls read)
+  early : earlyRows ls ≡ []
+  early = no-early-row bs ls read
 
   -- the query with the text's cells, whatever is behind them
   stands : (more : List ℤ) → Stands (storedOf (done ls)) (flatTables ts ++ more) (reportOf ls)
@@ -98,7 +98,7 @@ module _ (bs : Bytes) (ls : List Line) (read : textLines bs ≡ some ls) (yes : 
   unfolding laid
   run-left before h =
       sym (run-accepted bs before (storedOf (done ls)) says-kept)
-      ∙ ap (λ (zs : List ℤ). laid before 0 zs) (text-cells bs ls read early)
+      ∙ ap (λ (zs : List ℤ). laid before 0 zs) (text-cells bs ls read)
       ∙ sets-eq (flatTables ts) before 0 (omega (arith, tables-length ts, within .2))
       ∙ rw (zero-add (length (flatTables ts)))
 

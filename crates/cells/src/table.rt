@@ -2,7 +2,6 @@
 // the slice and the numbers. A caller with plain parameters takes `viewed_cell`.
 use crate::cell::Cell;
 ghost use mathlib.Core.Path.{_≡_};
-ghost use lib.Dec.{ltb};
 ghost use Rattle.cells.specs.Condition.{ownCell};
 
 // A table's own cells, row after row, and its counts of rows and columns.
@@ -29,13 +28,6 @@ pub fn cell_at(own: &[i32], rows: u16, columns: u16, row: u16, column: u16) -> i
     own[at]
 }
 
-// Whether one of a table's rows has the number.
-pub fn row_within(rows: u16, row: u16) -> bool
-    ensures { λ r. ⌜ r ≡ ltb row rows ⌝ }
-{
-    row < rows
-}
-
 // The view of a table.
 pub fn view<'a>(cells: &'a [i32], rows: u16, columns: u16) -> Table<'a>
     ensures { λ r. ⌜ (r .cells ≡ cells .entry) × (r .rows ≡ rows) × (r .columns ≡ columns) ⌝ }
@@ -52,13 +44,6 @@ pub fn cell<'a>(t: Table<'a>, row: u16, column: u16) -> i32
     ensures { λ r. ⌜ r ≡ ownCell (now (t .entry .cells)) (t .entry .rows) (t .entry .columns) row column ⌝ }
 {
     cell_at(t.cells, t.rows, t.columns, row, column)
-}
-
-// Whether the table that is viewed has the row.
-pub fn has_row<'a>(t: Table<'a>, row: u16) -> bool
-    ensures { λ r. ⌜ r ≡ ltb row (t .entry .rows) ⌝ }
-{
-    row_within(t.rows, row)
 }
 
 // The cell at a row and a column of a table's own cells, asked of the table's view.

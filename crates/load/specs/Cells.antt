@@ -1,16 +1,16 @@
 -- Serves the code's pass over the cells; no demand cites it. The cells of a text's D lines, line after line. Assumes nothing.
-use mathlib.Core.Path.{_≡_, refl, sym, ap, _∙_}
+use mathlib.Core.Path.{_≡_, refl, sym, _∙_}
 use mathlib.Core.Bool.{Bool, true, false}
 use mathlib.Core.List.{List, [], _∷_, _++_}
 use mathlib.Core.Option.{Option, none, some}
 use Prim.Native.Nat.{ℕ, zero, suc, _+_, _-_, _<_, _≤_}
-use native.Mathlib.Nat.{add-zero, suc-add}
+use native.Mathlib.Nat.{add-zero}
 use native.Mathlib.Numerals.{add-one}
 use native.Mathlib.Omega.{arith}
 use lib.Dec.{eqb, leb}
 use lib.IntN.{ℤ}
-use lib.ListN.{length, take, drop, getD, set, length-append}
-use lib.Seq.{sets, sets-eq}
+use lib.ListN.{length, take, drop, getD, set}
+use lib.Seq.{sets}
 use borrow.Author.Tests.{eq-eqb, ne-eqb, le-leb, lt-leb, leb-true, leb-false}
 use Rattle.cells.specs.Choice.{if_then_else_}
 use Rattle.text.specs.Bytes.{Bytes, tab, lineFeed, split}
@@ -156,11 +156,3 @@ pub part-short : (n : ℕ) (l : Bytes) → length (take n l) ≤ n
 part-short zero l = omega arith
 part-short (suc n) [] = omega arith
 part-short (suc n) (b ∷ l) = let h = part-short n l in omega arith
-
--- cells laid from the run's start on: they, and then what was there
-pub laid-first : (run zs : List ℤ) → length zs ≤ length run → laid run 0 zs ≡ zs ++ drop (length zs) run
-unfolding laid
-laid-first run zs h =
-    let k : 0 + length zs ≤ length run = omega arith in
-    let n : 0 + length zs ≡ length zs = omega arith in
-    sets-eq zs run 0 k ∙ rw n

@@ -5,6 +5,7 @@ use text::part;
 ghost use mathlib.Core.Path.{_≡_};
 ghost use Prim.Native.Nat.{_+_, _≤_};
 ghost use lib.ListN.{length, set};
+ghost use Rattle.cells.specs.Limits.{mostBytes};
 ghost use Rattle.text.specs.Parts.{fieldsFrom};
 ghost use Rattle.load.specs.Cells.{goodCells, lineCells, textCells, laid, behind};
 
@@ -59,7 +60,7 @@ fn put_line(l: &[u8], run: &mut [i32], out: usize) -> usize
 
 // The cells of a text.
 pub fn put_cells(text: &[u8], run: &mut [i32])
-    requires { ⌜ length (now text) ≤ 16384 ⌝ }
+    requires { ⌜ length (now text) ≤ mostBytes ⌝ }
     ensures { λ _. ⌜ now (run .exit) ≡ laid (now (run .entry)) 0 (textCells (now (text .entry))) ⌝ }
 {
     let mut out = 0;

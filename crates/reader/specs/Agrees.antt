@@ -1,32 +1,72 @@
 -- The pass over the lines reads the lines that question 2 accepts: document 01, "Report text". Assumes nothing.
 use mathlib.Core.Path.{_≡_, refl, sym, ap, _∙_}
-use mathlib.Core.Bool.{Bool, true, false, _&&_}
+use mathlib.Core.Bool.{Bool, true, false}
 use mathlib.Core.List.{List, [], _∷_}
 use mathlib.Core.Option.{Option, none, some}
-use Prim.Native.Nat.{ℕ, _+_}
+use Prim.Native.Nat.{ℕ}
 use lib.Dec.{eqb, leb}
 use lib.ListN.{length}
 use Rattle.cells.specs.Choice.{if_then_else_}
+use Rattle.cells.specs.Limits.{mostBytes}
 use Rattle.text.specs.Bytes.{Bytes, lineFeed, split, closed}
-use Rattle.text.specs.Lines.{Line, tableLine, rowLine, joinLine, conditionLine, orderLine, kindOf, lineOf, linesOf, both, readAll}
-use Rattle.text.specs.Reading.{partOf, mayFollow, placed, ifPlaced, textLines}
+use Rattle.text.specs.Lines.{tableLine, rowLine, joinLine, conditionLine, orderLine, Line, tablesPart, joinsPart, orderPart, lineOf, linesOf, both, readAll}
+use Rattle.text.specs.LineParts.{also, picked, ofTables, ofJoins, ofOrder, tableLines, joinLines, orderLines}
+use Rattle.text.specs.Reading.{Place, beforeAll, opens, follows, next, placed, ifPlaced, textLines}
 use Rattle.text.specs.Parts.{linesFrom}
 use Rattle.text.specs.Forms.{lineRead}
-use Rattle.reader.specs.State.{afterTable, afterRow, afterJoin, afterCondition, afterPair}
-use Rattle.reader.specs.Survey.{start, onTable, onRow, onJoin, onCondition, onOrder, afterRead, onward, readLines, readFrom, surveyOf}
+use Rattle.reader.specs.Survey.{opensAt, followsAt, nextRead, start, atPlace, told, readAt, afterRead, onward, readLines, readFrom, surveyOf}
+use Rattle.reader.specs.Kept.{tablesAfter, joinsAfter, pairsAfter}
+use Rattle.reader.specs.declared.place.Place.{Place as PlaceRead}
 use Rattle.reader.specs.declared.survey.Reading.{Reading}
 
--- the reading after a line that stands in its place, and after lines that do
-unfoldable pub afterLine : Reading → Line → Reading
-afterLine s (tableLine n) = record { part = 1; tables = afterTable (s .tables) n; joins = s .joins; pairs = s .pairs }
-afterLine s (rowLine zs) = record { part = 1; tables = afterRow (s .tables) (length zs); joins = s .joins; pairs = s .pairs }
-afterLine s (joinLine k a b) = record { part = 2; tables = s .tables; joins = afterJoin (s .joins) (kindOf k) a b; pairs = s .pairs }
-afterLine s (conditionLine c) = record { part = 2; tables = s .tables; joins = afterCondition (s .joins) c; pairs = s .pairs }
-afterLine s (orderLine a b) = record { part = 3; tables = s .tables; joins = s .joins; pairs = afterPair (s .pairs) a b }
+-- ---- the place of a line
 
+abbrev placeOf : PlaceRead → Place
+placeOf p = record { part = p .part }
+
+placesOf : Option PlaceRead → Option Place
+placesOf none = none
+placesOf (some p) = some (placeOf p)
+
+if-same : (t : Bool) (n : ℕ)
+    → _≡_ {A = Option Place} (if t then some (record { part = n }) else none) (placesOf (if t then some (record { part = n }) else none))
+unfolding placesOf
+if-same true n = refl
+if-same false n = refl
+
+next-same : (p : PlaceRead) (x : Line) → next (placeOf p) x ≡ placesOf (nextRead p (lineRead (some x)))
+unfolding next opens follows opensAt followsAt placesOf
+next-same p (tablesPart (tableLine n)) = if-same (leb (p .part) 1) 1
+next-same p (tablesPart (rowLine zs)) = if-same (eqb (p .part) 1) 1
+next-same p (joinsPart (joinLine k a b)) = if-same (leb (p .part) 2) 2
+next-same p (joinsPart (conditionLine c)) = if-same (eqb (p .part) 2) 2
+next-same p (orderPart (orderLine a b)) = if-same (leb (p .part) 3) 3
+
+-- the place behind lines; a line that may not stand there is passed by
+unfoldable pub lastPlace : PlaceRead → List Line → PlaceRead
+lastPlace p [] = p
+lastPlace p (x ∷ ls) = lastPlace (elim (nextRead p (lineRead (some x))) [ none ↦ p | some q ↦ q ]) ls
+
+-- ---- the reading after lines
+
+-- after lines that stand in their places: each struct by the lines of its part
 unfoldable pub linesAfter : Reading → List Line → Reading
-linesAfter s [] = s
-linesAfter s (x ∷ ls) = linesAfter (afterLine s x) ls
+linesAfter s ls = record {
+  place = lastPlace (s .place) ls;
+  tables = tablesAfter (s .tables) (tableLines ls);
+  joins = joinsAfter (s .joins) (joinLines ls);
+  pairs = pairsAfter (s .pairs) (orderLines ls);
+}
+
+-- one line, and then the others
+lines-step : (s : Reading) (x : Line) (ls : List Line) (q : PlaceRead) → nextRead (s .place) (lineRead (some x)) ≡ some q
+    → linesAfter (atPlace (told s (lineRead (some x))) q) ls ≡ linesAfter s (x ∷ ls)
+unfolding linesAfter lastPlace tablesAfter joinsAfter pairsAfter picked also ofTables ofJoins ofOrder
+lines-step s (tablesPart (tableLine n)) ls q e = rw e
+lines-step s (tablesPart (rowLine zs)) ls q e = rw e
+lines-step s (joinsPart (joinLine k a b)) ls q e = rw e
+lines-step s (joinsPart (conditionLine c)) ls q e = rw e
+lines-step s (orderPart (orderLine a b)) ls q e = rw e
 
 -- the reading of a text that question 2 accepts
 unfoldable pub surveyed : Option (List Line) → Option Reading
@@ -35,35 +75,42 @@ surveyed (some ls) = some (linesAfter start ls)
 
 placedAfter : Reading → Option (List Line) → Option Reading
 placedAfter s none = none
-placedAfter s (some ls) = if placed (s .part) ls then some (linesAfter s ls) else none
+placedAfter s (some ls) = if placed (placeOf (s .place)) ls then some (linesAfter s ls) else none
 
-step-same : (s : Reading) (x : Line) → afterRead s (lineRead (some x)) ≡ (if mayFollow (s .part) x then some (afterLine s x) else none)
-unfolding mayFollow afterLine onTable onRow onJoin onCondition onOrder
-step-same s (tableLine n) = refl
-step-same s (rowLine zs) = refl
-step-same s (joinLine k a b) = refl
-step-same s (conditionLine c) = refl
-step-same s (orderLine a b) = refl
+-- the lines behind a line, by the place that it has
+placedBy : Option Place → List Line → Bool
+placedBy none ls = false
+placedBy (some p) ls = placed p ls
 
-part-after : (s : Reading) (x : Line) → (afterLine s x) .part ≡ partOf x
-unfolding afterLine partOf
-part-after s (tableLine n) = refl
-part-after s (rowLine zs) = refl
-part-after s (joinLine k a b) = refl
-part-after s (conditionLine c) = refl
-part-after s (orderLine a b) = refl
+placed-cons : (p : Place) (x : Line) (ls : List Line) → placed p (x ∷ ls) ≡ placedBy (next p x) ls
+unfolding placed placedBy
+placed-cons p x ls = go (next p x)
+  where
+    go : (o : Option Place) → _≡_ {A = Bool} (elim o [ none ↦ false | some q ↦ placed q ls ]) (placedBy o ls)
+    go none = refl
+    go (some q) = refl
+
+placed-step : (s : Reading) (x : Line) (ls : List Line) (o : Option PlaceRead) → nextRead (s .place) (lineRead (some x)) ≡ o
+    → onward (λ (u : Reading). placedAfter u (some ls)) (readAt s (lineRead (some x)) o) ≡ placedAfter s (some (x ∷ ls))
+unfolding placedAfter onward readAt placesOf placedBy
+placed-step s x ls none e = rw (placed-cons (placeOf (s .place)) x ls, next-same (s .place) x, e)
+placed-step s x ls (some q) e =
+    ap (λ (u : Reading). if placed (placeOf q) ls then some u else none) (lines-step s x ls q e)
+    ∙ rw (placed-cons (placeOf (s .place)) x ls, next-same (s .place) x, e)
 
 lines-same : (s : Reading) (ls : List Bytes) → readLines s ls ≡ placedAfter s (readAll lineOf ls)
-unfolding readLines readAll placedAfter placed linesAfter onward both
+unfolding readLines readAll placedAfter placed linesAfter lastPlace picked tablesAfter joinsAfter pairsAfter onward readAt both
 lines-same s [] = refl
 lines-same s (l ∷ ls) = go (λ (t : Reading). lines-same t ls) (lineOf l)
   where
-    placedSo : (x : Line) (t : Bool) → mayFollow (s .part) x ≡ t → (r : Option (List Line))
-        → onward (λ (u : Reading). placedAfter u r) (if t then some (afterLine s x) else none) ≡ placedAfter s (both (some x) r)
-    placedSo x true e none = refl
-    placedSo x true e (some xs) = rw (e, part-after s x)
-    placedSo x false e none = refl
-    placedSo x false e (some xs) = rw e
+    placedSo : (x : Line) (r : Option (List Line))
+        → onward (λ (u : Reading). placedAfter u r) (afterRead s (lineRead (some x))) ≡ placedAfter s (both (some x) r)
+    placedSo x none = nothing (nextRead (s .place) (lineRead (some x)))
+      where
+        nothing : (o : Option PlaceRead) → onward (λ (u : Reading). none) (readAt s (lineRead (some x)) o) ≡ none
+        nothing none = refl
+        nothing (some q) = refl
+    placedSo x (some xs) = placed-step s x xs (nextRead (s .place) (lineRead (some x))) refl
 
     moved : ((t : Reading) → readLines t ls ≡ placedAfter t (readAll lineOf ls)) → (o : Option Reading)
         → onward (λ (t : Reading). readLines t ls) o ≡ onward (λ (u : Reading). placedAfter u (readAll lineOf ls)) o
@@ -74,9 +121,7 @@ lines-same s (l ∷ ls) = go (λ (t : Reading). lines-same t ls) (lineOf l)
         → onward (λ (t : Reading). readLines t ls) (afterRead s (lineRead o)) ≡ placedAfter s (both o (readAll lineOf ls))
     go ih none = refl
     go ih (some x) =
-        moved ih (afterRead s (lineRead (some x)))
-        ∙ ap (onward (λ (u : Reading). placedAfter u (readAll lineOf ls))) (step-same s x)
-        ∙ placedSo x (mayFollow (s .part) x) refl (readAll lineOf ls)
+        moved ih (afterRead s (lineRead (some x))) ∙ placedSo x (readAll lineOf ls)
 
 if-placed : (ls : List Line) (t : Bool) → _≡_ {A = Option (List Line)} (elim t [ true ↦ some ls | false ↦ none ]) (if t then some ls else none)
 if-placed ls true = refl
@@ -84,9 +129,9 @@ if-placed ls false = refl
 
 ending : (o : Option (List Line))
     → placedAfter start o ≡ surveyed (elim o [ none ↦ none | some ls ↦ ifPlaced ls ])
-unfolding placedAfter surveyed ifPlaced start
+unfolding placedAfter surveyed ifPlaced start beforeAll
 ending none = refl
-ending (some ls) = chosen (placed 0 ls) ∙ ap surveyed (sym (if-placed ls (placed 0 ls)))
+ending (some ls) = chosen (placed beforeAll ls) ∙ ap surveyed (sym (if-placed ls (placed beforeAll ls)))
   where
     chosen : (t : Bool) → _≡_ {A = Option Reading} (if t then some (linesAfter start ls) else none) (surveyed (if t then some ls else none))
     chosen true = refl
@@ -100,7 +145,7 @@ read-closed (some ls) = lines-same start ls
 -- question 2, and what the lines leave
 pub survey-reads : (bs : Bytes) → surveyOf bs ≡ surveyed (textLines bs)
 unfolding surveyOf textLines linesOf linesFrom surveyed
-survey-reads bs = go (leb (length bs) 16384)
+survey-reads bs = go (leb (length bs) mostBytes)
   where
     go : (t : Bool) → (if t then readFrom start (linesFrom bs 0) else none)
         ≡ surveyed (elim t [ true ↦ elim (linesOf bs) [ none ↦ none | some ls ↦ ifPlaced ls ] | false ↦ none ])

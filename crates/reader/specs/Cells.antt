@@ -1,34 +1,34 @@
 -- The cells that an accepted text's layout and run hold are the report's, at every table, row and column, also where there is none.
 -- Assumes nothing.
-use mathlib.Core.Path.{_≡_, refl, sym, ap, _∙_}
-use mathlib.Core.Bool.{Bool, true, false, _&&_, and-false}
-use mathlib.Core.List.{List, [], _∷_, _++_, map}
+use mathlib.Core.Path.{_≡_, refl, ap, _∙_}
+use mathlib.Core.Bool.{Bool, true, false, and-false}
+use mathlib.Core.List.{List, [], _++_, map}
 use Prim.Native.Nat.{ℕ, zero, suc, _+_, _-_, _<_, _≤_}
-use native.Mathlib.Nat.{zero-add}
 use native.Mathlib.Omega.{arith}
 use lib.Dec.{eqb, ltb}
 use lib.IntN.{ℤ}
-use lib.ListN.{length, drop, getD, replicate, length-map, length-replicate, List·getD-eq-default}
+use lib.ListN.{length, getD, replicate, length-map, length-replicate, List·getD-eq-default}
 use lib.Seq.{sets}
 use borrow.Author.Tests.{le-ltb, ltb-true, ltb-false}
-use Rattle.cells.specs.Choice.{if_then_else_}
 use Rattle.cells.specs.BoolLaws.{is-true}
 use Rattle.cells.specs.Cell.{blankCell}
+use Rattle.cells.specs.Limits.{mostTables, mostCells}
 use Rattle.cells.specs.Condition.{ownCell, cellsIn}
 use Rattle.cells.specs.declared.condition.Layout.{Layout}
 use Rattle.rows.specs.Lists.{all}
 use Rattle.rows.specs.ListLaws.{all-elim, getD-isIn}
 use Rattle.plan.specs.Report.{Table}
 use Rattle.text.specs.Lines.{Line}
-use Rattle.text.specs.Reading.{tablesOf, reportOf}
+use Rattle.text.specs.LineParts.{tableLines}
+use Rattle.text.specs.Reading.{earlyRows, tablesIn, reportOf}
 use Rattle.plan.specs.TableQuestions.{cellsInTables, question4}
 use Rattle.load.specs.Flat.{flatTables}
 use Rattle.reader.specs.State.{noTables, closedRows}
 use Rattle.reader.specs.Survey.{start}
+use Rattle.reader.specs.Agrees.{linesAfter}
 use Rattle.reader.specs.Kept.{columns-kept}
-use Rattle.reader.specs.Query.{storedOf, done, after-tables, sets-behind}
+use Rattle.reader.specs.Query.{storedOf, done, sets-behind}
 use Rattle.reader.specs.Looked.{Wide, noTable, cells-looked}
-use Rattle.reader.specs.declared.tables.Tables.{Tables}
 
 abbrev none : ℕ → List ℕ
 none n = replicate n 0
@@ -42,21 +42,20 @@ zeros (suc n) (suc i) = zeros n i
 sets-beyond : (n : ℕ) (vs : List ℕ) (t : ℕ) → length vs ≤ n → length vs ≤ t → getD (sets (none n) 0 vs) t 0 ≡ 0
 sets-beyond n vs t h k = sets-behind (none n) vs t 0 (rw length-replicate h) k ∙ zeros n t
 
-module _ (ls : List Line) (early : (tablesOf ls) .0 ≡ []) (fits : length ((tablesOf ls) .1) ≤ 8)
-    (few : cellsInTables ((tablesOf ls) .1) ≤ 4096) (even : question4 (reportOf ls) ≡ true) where
+module _ (ls : List Line) (early : earlyRows ls ≡ []) (fits : length (tablesIn ls) ≤ mostTables)
+    (few : cellsInTables (tablesIn ls) ≤ mostCells) (even : question4 (reportOf ls) ≡ true) where
   abbrev ts : List Table
-  ts = (tablesOf ls) .1
+  ts = tablesIn ls
 
   abbrev layout : Layout
   layout = (storedOf (done ls)) .layout
 
   columns-beyond : (t : ℕ) → length ts ≤ t → getD (layout .columns) t 0 ≡ 0
-  unfolding storedOf closedRows start noTables
+  unfolding storedOf closedRows linesAfter start noTables
   columns-beyond t h =
       let n : length (map (λ (x : Table). x .columns) ts) ≡ length ts = length-map ts (λ (x : Table). x .columns) in
-      ap (λ (x : Tables). getD (x .layout .columns) t 0) (after-tables start ls)
-      ∙ ap (λ (x : List ℕ). getD x t 0) (columns-kept noTables ls)
-      ∙ sets-beyond 8 (map (λ (x : Table). x .columns) ts) t (rw n fits) (rw n h)
+      ap (λ (x : List ℕ). getD x t 0) (columns-kept noTables (tableLines ls))
+      ∙ sets-beyond mostTables (map (λ (x : Table). x .columns) ts) t (rw n fits) (rw n h)
 
   wide : (t : ℕ) → t < length ts → Wide (getD ts t noTable .columns) (getD ts t noTable .rows)
   unfolding question4 reportOf

@@ -10,6 +10,7 @@ use lib.Dec.{ltb}
 use lib.ListN.{length, getD, replicate, length-replicate, List·getD-eq-default}
 use lib.Seq.{sets, getD-take}
 use borrow.Author.Tests.{ltb-true, ltb-false}
+use Rattle.cells.specs.Limits.{mostConditions}
 use Rattle.cells.specs.Row.{Row}
 use Rattle.cells.specs.Condition.{Cells, cellIn, sideIn, trueIn}
 use Rattle.cells.specs.OperatorLaws.{holds-outside}
@@ -17,12 +18,13 @@ use Rattle.cells.specs.declared.condition.Condition.{Condition}
 use Rattle.cells.specs.declared.condition.Side.the-variants.{Column}
 use Rattle.plan.specs.Report.{noCondition, queryOf, conditionAt}
 use Rattle.text.specs.Lines.{Line}
-use Rattle.text.specs.Reading.{conditionsOf, reportOf}
+use Rattle.text.specs.LineParts.{joinLines}
+use Rattle.text.specs.Reading.{conditionsIn, reportOf}
 use Rattle.reader.specs.State.{noJoins}
 use Rattle.reader.specs.Survey.{start}
+use Rattle.reader.specs.Agrees.{linesAfter}
 use Rattle.reader.specs.Kept.{conditions-kept}
-use Rattle.reader.specs.Query.{storedOf, done, after-joins, kept-conditions, sets-behind}
-use Rattle.reader.specs.declared.join_lines.Joins.{Joins}
+use Rattle.reader.specs.Query.{storedOf, done, kept-conditions, sets-behind}
 
 -- a condition with code 0 is true in no row
 no-operator : (f : Cells) (k : Condition) (row : Row) → k .operator ≡ 0 → trueIn f k row ≡ false
@@ -40,28 +42,27 @@ behind : (n : ℕ) (z : Condition) (vs : List Condition) (t : ℕ) → z .operat
 behind n z vs t o h k =
     ap (λ (x : Condition). x .operator) (sets-behind (replicate n z) vs t noCondition (rw length-replicate h) k) ∙ replicated n t z o
 
-module _ (ls : List Line) (fits : length (conditionsOf ls) ≤ 64) where
-  beyond : (c : ℕ) → length (conditionsOf ls) ≤ c → getD ((storedOf (done ls)) .conditions) c noCondition .operator ≡ 0
-  unfolding storedOf start noJoins
+module _ (ls : List Line) (fits : length (conditionsIn ls) ≤ mostConditions) where
+  beyond : (c : ℕ) → length (conditionsIn ls) ≤ c → getD ((storedOf (done ls)) .conditions) c noCondition .operator ≡ 0
+  unfolding storedOf linesAfter start noJoins
   beyond c h =
-      ap (λ (j : Joins). getD (j .conditions) c noCondition .operator) (after-joins start ls)
-      ∙ ap (λ (l : List Condition). getD l c noCondition .operator) (conditions-kept noJoins ls)
-      ∙ behind 64 (record { table = 0; column = 0; operator = 0; side = Column 0 0 }) (conditionsOf ls) c refl fits h
+      ap (λ (l : List Condition). getD l c noCondition .operator) (conditions-kept noJoins (joinLines ls))
+      ∙ behind mostConditions (record { table = 0; column = 0; operator = 0; side = Column 0 0 }) (conditionsIn ls) c refl fits h
 
   pub condition-seen : (f : Cells) (c : ℕ) (row : Row)
       → trueIn f (getD ((storedOf (done ls)) .conditions) c noCondition) row ≡ trueIn f (conditionAt (queryOf (reportOf ls)) c) row
   unfolding conditionAt queryOf reportOf noCondition
-  condition-seen f c row = go (ltb c (length (conditionsOf ls))) refl
+  condition-seen f c row = go (ltb c (length (conditionsIn ls))) refl
     where
-      go : (b : Bool) → ltb c (length (conditionsOf ls)) ≡ b
-          → trueIn f (getD ((storedOf (done ls)) .conditions) c noCondition) row ≡ trueIn f (getD (conditionsOf ls) c noCondition) row
+      go : (b : Bool) → ltb c (length (conditionsIn ls)) ≡ b
+          → trueIn f (getD ((storedOf (done ls)) .conditions) c noCondition) row ≡ trueIn f (getD (conditionsIn ls) c noCondition) row
       go true e =
-          let h : c < length (conditionsOf ls) = ltb-true c (length (conditionsOf ls)) e in
+          let h : c < length (conditionsIn ls) = ltb-true c (length (conditionsIn ls)) e in
           ap (λ (k : Condition). trueIn f k row)
-          (sym (getD-take (length (conditionsOf ls)) ((storedOf (done ls)) .conditions) c noCondition h)
+          (sym (getD-take (length (conditionsIn ls)) ((storedOf (done ls)) .conditions) c noCondition h)
           ∙ ap (λ (l : List Condition). getD l c noCondition) (kept-conditions ls fits))
       go false e =
-          let h : length (conditionsOf ls) ≤ c = ltb-false c (length (conditionsOf ls)) e in
+          let h : length (conditionsIn ls) ≤ c = ltb-false c (length (conditionsIn ls)) e in
           no-operator f (getD ((storedOf (done ls)) .conditions) c noCondition) row (beyond c h)
-          ∙ sym (no-operator f (getD (conditionsOf ls) c noCondition) row
-          (ap (λ (k : Condition). k .operator) (List·getD-eq-default (conditionsOf ls) noCondition h)))
+          ∙ sym (no-operator f (getD (conditionsIn ls) c noCondition) row
+          (ap (λ (k : Condition). k .operator) (List·getD-eq-default (conditionsIn ls) noCondition h)))

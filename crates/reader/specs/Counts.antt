@@ -1,22 +1,22 @@
 -- What the lines of a report leave in the code's structs answers questions 3 and 4 and says where each table's cells begin.
 -- Assumes nothing.
-use mathlib.Core.Path.{_≡_, refl, sym, ap, _∙_}
+use mathlib.Core.Path.{_≡_, refl, sym, _∙_}
 use mathlib.Core.Bool.{Bool, true, false, _&&_, and-true, and-false}
-use mathlib.Core.List.{List, [], _∷_, map}
-use Prim.Native.Nat.{ℕ, zero, suc, _+_, _-_, _<_, _≤_}
-use native.Mathlib.Nat.{add-zero, zero-add, add-suc, suc-add}
+use mathlib.Core.List.{List, [], _∷_}
+use Prim.Native.Nat.{ℕ, suc, _+_, _-_, _<_, _≤_}
+use native.Mathlib.Nat.{add-zero, zero-add}
 use native.Mathlib.Numerals.{add-one}
 use native.Mathlib.Omega.{arith}
 use lib.Dec.{eqb, leb}
 use lib.IntN.{ℤ}
-use lib.ListN.{length, set}
+use lib.ListN.{length}
 use lib.Seq.{sets}
-use borrow.Author.Tests.{le-leb, lt-leb, leb-true, leb-false}
-use Rattle.cells.specs.Choice.{if_then_else_}
+use borrow.Author.Tests.{le-leb, lt-leb, leb-false}
+use Rattle.cells.specs.Limits.{mostColumns, mostRows, mostCells}
 use Rattle.rows.specs.Lists.{all}
 use Rattle.plan.specs.Report.{Table}
-use Rattle.text.specs.Lines.{Line, tableLine, rowLine, joinLine, conditionLine, orderLine}
-use Rattle.text.specs.Reading.{tablesOf}
+use Rattle.text.specs.Lines.{TableLine, tableLine, rowLine}
+use Rattle.text.specs.Reading.{firstRows, tablesOf}
 use Rattle.plan.specs.TableQuestions.{cellsInRows, cellsInTables, tableFits}
 use Rattle.reader.specs.State.{cellsAfter, afterTable, afterRow, closedRows, openedTable, tableFits as fitsAfter}
 use Rattle.reader.specs.Kept.{tablesAfter}
@@ -35,17 +35,14 @@ regroup true true c d = refl
 regroup true false c d = refl
 regroup false b c d = refl
 
-pub even-kept : (t : Tables) (ls : List Line)
-    → (tablesAfter t ls) .even ≡ (t .even && (Even (t .columns) ((tablesOf ls) .0) && AllEven ((tablesOf ls) .1)))
-unfolding tablesAfter tablesOf afterTable afterRow all
+pub even-kept : (t : Tables) (ls : List TableLine)
+    → (tablesAfter t ls) .even ≡ (t .even && (Even (t .columns) (firstRows ls) && AllEven (tablesOf ls)))
+unfolding tablesAfter firstRows tablesOf afterTable afterRow all
 even-kept t [] = sym (and-true (t .even))
 even-kept t (tableLine n ∷ ls) = even-kept (afterTable t n) ls
 even-kept t (rowLine zs ∷ ls) =
     even-kept (afterRow t (length zs)) ls
-    ∙ regroup (t .even) (eqb (length zs) (t .columns)) (Even (t .columns) ((tablesOf ls) .0)) (AllEven ((tablesOf ls) .1))
-even-kept t (joinLine k a b ∷ ls) = even-kept t ls
-even-kept t (conditionLine c ∷ ls) = even-kept t ls
-even-kept t (orderLine a b ∷ ls) = even-kept t ls
+    ∙ regroup (t .even) (eqb (length zs) (t .columns)) (Even (t .columns) (firstRows ls)) (AllEven (tablesOf ls))
 
 -- ---- 3: each table's columns and rows
 
@@ -56,57 +53,51 @@ exchange a true false d true g = and-false a
 exchange a true true false true g = and-false a
 exchange a true true true true g = refl
 
-pub fits-kept : (t : Tables) (ls : List Line)
-    → (leb ((tablesAfter t ls) .rows) 256 && (tablesAfter t ls) .fits)
-    ≡ (leb (t .rows + length ((tablesOf ls) .0)) 256 && (t .fits && all tableFits ((tablesOf ls) .1)))
-unfolding tablesAfter tablesOf afterTable afterRow all tableFits fitsAfter
+pub fits-kept : (t : Tables) (ls : List TableLine)
+    → (leb ((tablesAfter t ls) .rows) mostRows && (tablesAfter t ls) .fits)
+    ≡ (leb (t .rows + length (firstRows ls)) mostRows && (t .fits && all tableFits (tablesOf ls)))
+unfolding tablesAfter firstRows tablesOf afterTable afterRow all tableFits fitsAfter
 fits-kept t [] = rw (add-zero (t .rows), and-true (t .fits))
 fits-kept t (tableLine n ∷ ls) =
     fits-kept (afterTable t n) ls
-    ∙ rw (zero-add (length ((tablesOf ls) .0)), add-zero (t .rows))
-    (exchange (leb (length ((tablesOf ls) .0)) 256) (leb (t .rows) 256) (leb 1 n) (leb n 8) (t .fits) (all tableFits ((tablesOf ls) .1)))
+    ∙ rw (zero-add (length (firstRows ls)), add-zero (t .rows))
+    (exchange (leb (length (firstRows ls)) mostRows) (leb (t .rows) mostRows) (leb 1 n) (leb n mostColumns) (t .fits) (all tableFits (tablesOf ls)))
 fits-kept t (rowLine zs ∷ ls) =
-    let e : t .rows + 1 + length ((tablesOf ls) .0) ≡ t .rows + suc (length ((tablesOf ls) .0)) = omega arith in
+    let e : t .rows + 1 + length (firstRows ls) ≡ t .rows + suc (length (firstRows ls)) = omega arith in
     fits-kept (afterRow t (length zs)) ls ∙ rw e
-fits-kept t (joinLine k a b ∷ ls) = fits-kept t ls
-fits-kept t (conditionLine c ∷ ls) = fits-kept t ls
-fits-kept t (orderLine a b ∷ ls) = fits-kept t ls
 
 -- ---- 3: the cells
 
 -- the cells that lines write
-abbrev pub Written : List Line → ℕ
-Written ls = cellsInRows ((tablesOf ls) .0) + cellsInTables ((tablesOf ls) .1)
+abbrev pub Written : List TableLine → ℕ
+Written ls = cellsInRows (firstRows ls) + cellsInTables (tablesOf ls)
 
-pub cells-within : (c n : ℕ) → c + n ≤ 4096 → cellsAfter c n ≡ c + n
+pub cells-within : (c n : ℕ) → c + n ≤ mostCells → cellsAfter c n ≡ c + n
 unfolding cellsAfter
-cells-within c n h = rw (le-leb n 4096 (omega arith), le-leb c 4096 (omega arith))
+cells-within c n h = rw (le-leb n mostCells (omega arith), le-leb c mostCells (omega arith))
 
-cells-step : (c n m : ℕ) → leb (cellsAfter c n + m) 4096 ≡ leb (c + (n + m)) 4096
+cells-step : (c n m : ℕ) → leb (cellsAfter c n + m) mostCells ≡ leb (c + (n + m)) mostCells
 unfolding cellsAfter
-cells-step c n m = go (leb n 4096) refl (leb c 4096) refl
+cells-step c n m = go (leb n mostCells) refl (leb c mostCells) refl
   where
-    go : (s : Bool) → leb n 4096 ≡ s → (t : Bool) → leb c 4096 ≡ t → leb (cellsAfter c n + m) 4096 ≡ leb (c + (n + m)) 4096
+    go : (s : Bool) → leb n mostCells ≡ s → (t : Bool) → leb c mostCells ≡ t → leb (cellsAfter c n + m) mostCells ≡ leb (c + (n + m)) mostCells
     go true e true g =
         let h : c + n + m ≡ c + (n + m) = omega arith in
         rw (e, g, h)
     go true e false g =
-        let h : 4096 < c = leb-false c 4096 g in
-        rw (e, g, lt-leb (4097 + m) 4096 (omega arith), lt-leb (c + (n + m)) 4096 (omega arith))
+        let h : mostCells < c = leb-false c mostCells g in
+        rw (e, g, lt-leb ((mostCells + 1) + m) mostCells (omega arith), lt-leb (c + (n + m)) mostCells (omega arith))
     go false e t g =
-        let h : 4096 < n = leb-false n 4096 e in
-        rw (e, lt-leb (4097 + m) 4096 (omega arith), lt-leb (c + (n + m)) 4096 (omega arith))
+        let h : mostCells < n = leb-false n mostCells e in
+        rw (e, lt-leb ((mostCells + 1) + m) mostCells (omega arith), lt-leb (c + (n + m)) mostCells (omega arith))
 
-pub cells-kept : (t : Tables) (ls : List Line) → leb ((tablesAfter t ls) .cells) 4096 ≡ leb (t .cells + Written ls) 4096
-unfolding tablesAfter tablesOf afterTable afterRow cellsInRows cellsInTables
+pub cells-kept : (t : Tables) (ls : List TableLine) → leb ((tablesAfter t ls) .cells) mostCells ≡ leb (t .cells + Written ls) mostCells
+unfolding tablesAfter firstRows tablesOf afterTable afterRow cellsInRows cellsInTables
 cells-kept t [] = rw (add-zero (t .cells))
 cells-kept t (tableLine n ∷ ls) = cells-kept (afterTable t n) ls ∙ rw (zero-add (Written ls))
 cells-kept t (rowLine zs ∷ ls) =
-    let e : length zs + cellsInRows ((tablesOf ls) .0) + cellsInTables ((tablesOf ls) .1) ≡ length zs + Written ls = omega arith in
+    let e : length zs + cellsInRows (firstRows ls) + cellsInTables (tablesOf ls) ≡ length zs + Written ls = omega arith in
     cells-kept (afterRow t (length zs)) ls ∙ cells-step (t .cells) (length zs) (Written ls) ∙ rw e
-cells-kept t (joinLine k a b ∷ ls) = cells-kept t ls
-cells-kept t (conditionLine c ∷ ls) = cells-kept t ls
-cells-kept t (orderLine a b ∷ ls) = cells-kept t ls
 
 -- ---- where each table's cells begin
 
@@ -115,18 +106,15 @@ unfoldable pub offsetsFrom : ℕ → List Table → List ℕ
 offsetsFrom o [] = []
 offsetsFrom o (t ∷ ts) = o ∷ offsetsFrom (o + cellsInRows (t .rows)) ts
 
-pub offsets-kept : (t : Tables) (ls : List Line) → t .cells + Written ls ≤ 4096
+pub offsets-kept : (t : Tables) (ls : List TableLine) → t .cells + Written ls ≤ mostCells
     → (tablesAfter t ls) .layout .offsets
-    ≡ sets (t .layout .offsets) (t .count) (offsetsFrom (t .cells + cellsInRows ((tablesOf ls) .0)) ((tablesOf ls) .1))
-unfolding tablesAfter tablesOf afterTable afterRow closedRows openedTable cellsInRows cellsInTables offsetsFrom
+    ≡ sets (t .layout .offsets) (t .count) (offsetsFrom (t .cells + cellsInRows (firstRows ls)) (tablesOf ls))
+unfolding tablesAfter firstRows tablesOf afterTable afterRow closedRows openedTable cellsInRows cellsInTables offsetsFrom
 offsets-kept t [] h = refl
 offsets-kept t (tableLine n ∷ ls) h =
     offsets-kept (afterTable t n) ls (omega arith) ∙ rw (add-one (t .count), add-zero (t .cells))
 offsets-kept t (rowLine zs ∷ ls) h =
-    let w : t .cells + length zs ≤ 4096 = omega arith in
+    let w : t .cells + length zs ≤ mostCells = omega arith in
     let e = cells-within (t .cells) (length zs) w in
-    let g : t .cells + length zs + cellsInRows ((tablesOf ls) .0) ≡ t .cells + (length zs + cellsInRows ((tablesOf ls) .0)) = omega arith in
+    let g : t .cells + length zs + cellsInRows (firstRows ls) ≡ t .cells + (length zs + cellsInRows (firstRows ls)) = omega arith in
     offsets-kept (afterRow t (length zs)) ls (rw e (omega arith)) ∙ rw (e, g)
-offsets-kept t (joinLine k a b ∷ ls) h = offsets-kept t ls h
-offsets-kept t (conditionLine c ∷ ls) h = offsets-kept t ls h
-offsets-kept t (orderLine a b ∷ ls) h = offsets-kept t ls h

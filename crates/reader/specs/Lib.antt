@@ -2,8 +2,8 @@ pub mod State
 pub mod Steps
 pub mod Survey
 pub mod SurveyLaws
-pub mod Agrees
 pub mod Kept
+pub mod Agrees
 pub mod Counts
 pub mod Query
 pub mod Outcome

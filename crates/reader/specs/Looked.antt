@@ -1,33 +1,34 @@
 -- What the layout and the run of an accepted text hold is the report's cells: document 01, "a table is looked at through its row
 -- count, column count and own cells". Assumes nothing.
 use mathlib.Core.Path.{_≡_, refl, sym, ap, _∙_}
-use mathlib.Core.Bool.{Bool, true, false, and-false}
+use mathlib.Core.Bool.{Bool, true, false}
 use mathlib.Core.List.{List, [], _∷_, _++_, append-assoc, map}
 use Prim.Native.Nat.{ℕ, zero, suc, _+_, _*_, _-_, _<_, _≤_}
-use native.Mathlib.Nat.{add-assoc, zero-mul, suc-mul, zero-add}
+use native.Mathlib.Nat.{zero-mul, suc-mul, zero-add}
 use native.Mathlib.Omega.{arith}
 use lib.Dec.{eqb, ltb}
 use lib.IntN.{ℤ}
 use lib.ListN.{length, drop, getD, set, replicate, length-append, length-map, List·getD-eq-default, List·getD-append, List·getD-map}
 use lib.Seq.{sets, drop-append-seam, getD-append-add, getD-take}
-use borrow.Author.Tests.{lt-ltb, le-ltb, ltb-true, ltb-false, eqb-true}
-use Rattle.cells.specs.Choice.{if_then_else_}
+use borrow.Author.Tests.{ltb-true, ltb-false, eqb-true}
 use Rattle.cells.specs.BoolLaws.{both-left, both-right}
 use Rattle.cells.specs.Cell.{blankCell}
+use Rattle.cells.specs.Limits.{mostTables, mostCells}
 use Rattle.cells.specs.Condition.{ownCell, cellsIn}
 use Rattle.cells.specs.declared.condition.Layout.{Layout}
 use Rattle.rows.specs.Lists.{all}
 use Rattle.plan.specs.Report.{Table}
 use Rattle.text.specs.Lines.{Line}
-use Rattle.text.specs.Reading.{tablesOf}
+use Rattle.text.specs.LineParts.{tableLines}
+use Rattle.text.specs.Reading.{earlyRows, tablesIn}
 use Rattle.plan.specs.TableQuestions.{cellsInRows, cellsInTables}
 use Rattle.load.specs.Flat.{flatRows, flatTables}
 use Rattle.reader.specs.State.{noTables, closedRows}
 use Rattle.reader.specs.Survey.{start}
+use Rattle.reader.specs.Agrees.{linesAfter}
 use Rattle.reader.specs.Kept.{columns-kept, rows-kept}
 use Rattle.reader.specs.Counts.{Written, offsetsFrom, offsets-kept}
-use Rattle.reader.specs.Query.{storedOf, done, after-tables, sets-take}
-use Rattle.reader.specs.declared.tables.Tables.{Tables}
+use Rattle.reader.specs.Query.{storedOf, done, sets-take}
 
 -- ---- rows of one width
 
@@ -118,10 +119,10 @@ unfolding offsetsFrom
 offsets-length o [] = refl
 offsets-length o (t ∷ ts) = ap suc (offsets-length (o + cellsInRows (t .rows)) ts)
 
-module _ (ls : List Line) (early : (tablesOf ls) .0 ≡ []) (fits : length ((tablesOf ls) .1) ≤ 8)
-    (few : cellsInTables ((tablesOf ls) .1) ≤ 4096) (t : ℕ) (exists : t < length ((tablesOf ls) .1)) where
+module _ (ls : List Line) (early : earlyRows ls ≡ []) (fits : length (tablesIn ls) ≤ mostTables)
+    (few : cellsInTables (tablesIn ls) ≤ mostCells) (t : ℕ) (exists : t < length (tablesIn ls)) where
   abbrev ts : List Table
-  ts = (tablesOf ls) .1
+  ts = tablesIn ls
 
   abbrev layout : Layout
   layout = (storedOf (done ls)) .layout
@@ -130,30 +131,27 @@ module _ (ls : List Line) (early : (tablesOf ls) .0 ≡ []) (fits : length ((tab
   table = getD ts t noTable
 
   offset-at : getD (layout .offsets) t 0 ≡ getD (offsetsFrom 0 ts) t 0
-  unfolding storedOf closedRows start noTables cellsInRows
+  unfolding storedOf closedRows linesAfter start noTables cellsInRows
   offset-at =
-      let w : noTables .cells + Written ls ≤ 4096 = rw (early) (omega arith) in
+      let w : noTables .cells + Written (tableLines ls) ≤ mostCells = rw (early) (omega arith) in
       let n : length (offsetsFrom 0 ts) ≡ length ts = offsets-length 0 ts in
-      ap (λ (x : Tables). getD (x .layout .offsets) t 0) (after-tables start ls)
-      ∙ ap (λ (x : List ℕ). getD x t 0) (offsets-kept noTables ls w)
-      ∙ rw early (sets-at (replicate 8 0) (offsetsFrom 0 ts) t 0 (omega arith) (omega arith))
+      ap (λ (x : List ℕ). getD x t 0) (offsets-kept noTables (tableLines ls) w)
+      ∙ rw early (sets-at (replicate mostTables 0) (offsetsFrom 0 ts) t 0 (omega arith) (omega arith))
 
   columns-at : getD (layout .columns) t 0 ≡ table .columns
-  unfolding storedOf closedRows start noTables noTable
+  unfolding storedOf closedRows linesAfter start noTables noTable
   columns-at =
       let n : length (map (λ (x : Table). x .columns) ts) ≡ length ts = length-map ts (λ (x : Table). x .columns) in
-      ap (λ (x : Tables). getD (x .layout .columns) t 0) (after-tables start ls)
-      ∙ ap (λ (x : List ℕ). getD x t 0) (columns-kept noTables ls)
-      ∙ sets-at (replicate 8 0) (map (λ (x : Table). x .columns) ts) t 0 (omega arith) (omega arith)
+      ap (λ (x : List ℕ). getD x t 0) (columns-kept noTables (tableLines ls))
+      ∙ sets-at (replicate mostTables 0) (map (λ (x : Table). x .columns) ts) t 0 (omega arith) (omega arith)
       ∙ List·getD-map (λ (x : Table). x .columns) ts t noTable
 
   pub rows-at : getD (layout .rows) t 0 ≡ length (table .rows)
-  unfolding storedOf closedRows start noTables noTable
+  unfolding storedOf closedRows linesAfter start noTables noTable
   rows-at =
       let n : length (map (λ (x : Table). length (x .rows)) ts) ≡ length ts = length-map ts (λ (x : Table). length (x .rows)) in
-      ap (λ (x : Tables). getD (set (x .layout .rows) (x .count - 1) (x .rows)) t 0) (after-tables start ls)
-      ∙ ap (λ (x : List ℕ). getD x t 0) (rows-kept noTables ls)
-      ∙ sets-at (set (replicate 8 0) (0 - 1) (0 + length ((tablesOf ls) .0))) (map (λ (x : Table). length (x .rows)) ts) t 0 (omega arith) (omega arith)
+      ap (λ (x : List ℕ). getD x t 0) (rows-kept noTables (tableLines ls))
+      ∙ sets-at (set (replicate mostTables 0) (0 - 1) (0 + length (earlyRows ls))) (map (λ (x : Table). length (x .rows)) ts) t 0 (omega arith) (omega arith)
       ∙ List·getD-map (λ (x : Table). length (x .rows)) ts t noTable
 
   -- the cells that the layout and the run hold of a table are the table's

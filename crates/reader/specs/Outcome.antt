@@ -1,27 +1,28 @@
 -- What the reading of a text answers: document 01, "Questions, in order", 2 to 4. Assumes nothing.
-use mathlib.Core.Path.{_≡_, refl, sym, ap, ap₂, _∙_, subst}
-use mathlib.Core.Bool.{Bool, true, false, not}
-use mathlib.Core.List.{List, [], _∷_}
+use mathlib.Core.Path.{_≡_, refl, sym, ap, ap₂, _∙_}
+use mathlib.Core.Bool.{Bool, true, false}
+use mathlib.Core.List.{List}
 use mathlib.Core.Option.{Option, none, some}
-use Prim.Native.Nat.{ℕ, _<_, _≤_}
+use Prim.Native.Nat.{ℕ, _≤_}
 use native.Mathlib.Omega.{arith}
 use lib.Dec.{leb}
 use lib.IntN.{ℤ}
 use lib.ListN.{length}
-use borrow.Author.Tests.{leb-true, not-true, not-false}
+use borrow.Author.Tests.{leb-true}
 use Rattle.cells.specs.Choice.{if_then_else_}
+use Rattle.cells.specs.Limits.{mostBytes}
 use Rattle.plan.specs.declared.query.StoredQuery.{StoredQuery}
 use Rattle.text.specs.Bytes.{Bytes}
 use Rattle.text.specs.Lines.{Line}
-use Rattle.text.specs.Lines.{linesOf}
-use Rattle.text.specs.Reading.{placed, ifPlaced, textLines, tablesOf, reportOf}
+use Rattle.text.specs.Reading.{textLines, reportOf}
+use Rattle.text.specs.ReadingLaws.{no-early-row}
 use Rattle.plan.specs.TableQuestions.{question3, question4}
 use Rattle.plan.specs.Asking.{firstNo, tableQuestions}
 use Rattle.text.specs.Parts.{linesFrom}
 use Rattle.load.specs.Cells.{textCells, laid}
 use Rattle.reader.specs.Survey.{start, stepIn, readFrom, surveyOf}
 use Rattle.reader.specs.Agrees.{linesAfter, surveyed, survey-reads}
-use Rattle.reader.specs.Query.{storedOf, tablesFit, no-early-row, answer-3, answer-4}
+use Rattle.reader.specs.Query.{storedOf, tablesFit, answer-3, answer-4}
 use Rattle.reader.specs.declared.read.Answer.{Answer}
 use Rattle.reader.specs.declared.read.Outcome.{Outcome}
 use Rattle.reader.specs.declared.read.Outcome.the-variants as O
@@ -71,29 +72,6 @@ unfoldable pub surveyOutcome : Option Reading → TextOutcome
 surveyOutcome none = turnedDown 2
 surveyOutcome (some s) = readingOutcome s
 
--- lines of a text stand in their places
-module _ (ls : List Line) where
-  placed-three : (xs : List Line) (t : Bool) → placed 0 xs ≡ t
-      → _≡_ {A = Option (List Line)} (elim t [ true ↦ some xs | false ↦ none ]) (some ls) → placed 0 ls ≡ true
-  placed-three xs true p e = let q : xs ≡ ls = cc in subst (λ (z : List Line). placed 0 z ≡ true) q p
-  placed-three xs false p e = absurd (let y : _≡_ {A = ℕ} 0 1 = cc in omega arith)
-
-  placed-two : (o : Option (List Line)) → _≡_ {A = Option (List Line)} (elim o [ none ↦ none | some xs ↦ ifPlaced xs ]) (some ls)
-      → placed 0 ls ≡ true
-  unfolding ifPlaced
-  placed-two none e = absurd (let y : _≡_ {A = ℕ} 0 1 = cc in omega arith)
-  placed-two (some xs) e = placed-three xs (placed 0 xs) refl e
-
-  placed-one : (o : Option (List Line)) (t : Bool)
-      → _≡_ {A = Option (List Line)} (elim t [ true ↦ elim o [ none ↦ none | some xs ↦ ifPlaced xs ] | false ↦ none ]) (some ls)
-      → placed 0 ls ≡ true
-  placed-one o true e = placed-two o e
-  placed-one o false e = absurd (let y : _≡_ {A = ℕ} 0 1 = cc in omega arith)
-
-pub lines-placed : (bs : Bytes) (ls : List Line) → textLines bs ≡ some ls → placed 0 ls ≡ true
-unfolding textLines
-lines-placed bs ls e = placed-one ls (linesOf bs) (leb (length bs) 16384) e
-
 -- the questions about the tables, in the order in which the code asks them
 asked : (a b : Bool) (x : TextOutcome) → (if a then (if b then x else turnedDown 4) else turnedDown 3)
     ≡ (elim (elim a as (λ z. Option ℕ) [ true ↦ elim b as (λ z. Option ℕ) [ true ↦ none | false ↦ some 4 ] | false ↦ some 3 ]) as (λ z. TextOutcome)
@@ -109,7 +87,7 @@ outcome-same bs = ap surveyOutcome (survey-reads bs) ∙ go (textLines bs) refl
     go : (o : Option (List Line)) → textLines bs ≡ o → surveyOutcome (surveyed o) ≡ outcomeOf o
     go none e = refl
     go (some ls) e =
-        let n : (tablesOf ls) .0 ≡ [] = no-early-row 0 ls (λ z. omega arith) (lines-placed bs ls e) in
+        let n = no-early-row bs ls e in
         let x : TextOutcome = says (storedOf (linesAfter start ls)) in
         ap₂ (λ (a b : Bool). if a then (if b then x else turnedDown 4) else turnedDown 3) (answer-3 ls n) (answer-4 ls n)
         ∙ asked (question3 (reportOf ls)) (question4 (reportOf ls)) x
@@ -119,9 +97,9 @@ outcome-same bs = ap surveyOutcome (survey-reads bs) ∙ go (textLines bs) refl
 both-passed : (a b : Bool) (x : TextOutcome) → a ≡ true → b ≡ true → (if a then (if b then x else turnedDown 4) else turnedDown 3) ≡ x
 both-passed a b x h k = rw (h, k)
 
-short-by : (bs : Bytes) (s : Reading) (o : Option Reading) (t : Bool) → leb (length bs) 16384 ≡ t
-    → _≡_ {A = Option Reading} (some s) (if t then o else none) → length bs ≤ 16384
-short-by bs s o true l e = leb-true (length bs) 16384 l
+short-by : (bs : Bytes) (s : Reading) (o : Option Reading) (t : Bool) → leb (length bs) mostBytes ≡ t
+    → _≡_ {A = Option Reading} (some s) (if t then o else none) → length bs ≤ mostBytes
+short-by bs s o true l e = leb-true (length bs) mostBytes l
 short-by bs s o false l e = absurd (let y : _≡_ {A = ℕ} 0 1 = cc in omega arith)
 
 module _ (bs : Bytes) (r : Stepped) (e : stepIn r ≡ surveyOf bs) where
@@ -155,9 +133,9 @@ module _ (bs : Bytes) (r : Stepped) (e : stepIn r ≡ surveyOf bs) where
       ap says p ∙ sym (both-passed (tablesFit (r .reading .tables)) (r .reading .tables .even) (says (storedOf (r .reading))) (sym f ∙ k) n)
       ∙ ap surveyOutcome (accepted h) ∙ outcome-same bs
 
-  pub text-short : r .accepted ≡ true → length bs ≤ 16384
+  pub text-short : r .accepted ≡ true → length bs ≤ mostBytes
   unfolding surveyOf
-  text-short h = short-by bs (r .reading) (readFrom start (linesFrom bs 0)) (leb (length bs) 16384) refl (accepted h)
+  text-short h = short-by bs (r .reading) (readFrom start (linesFrom bs 0)) (leb (length bs) mostBytes) refl (accepted h)
 
 -- ---- the run
 

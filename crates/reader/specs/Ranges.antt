@@ -5,59 +5,54 @@ use Prim.Native.Nat.{ℕ, suc, _+_, _-_, _<_, _≤_}
 use native.Mathlib.Omega.{arith}
 use lib.ListN.{length, getD, set, length-map, length-set}
 use lib.Seq.{length-sets, getD-take}
+use Rattle.cells.specs.Limits.{mostJoins}
 use Rattle.rows.specs.ListLaws.{_isIn_, here, there, getD-isIn}
 use Rattle.plan.specs.Stored.{joinIn}
 use Rattle.plan.specs.declared.query.StoredJoin.{StoredJoin}
 use Rattle.plan.specs.declared.query.StoredQuery.{StoredQuery}
-use Rattle.text.specs.Lines.{Line, tableLine, rowLine, joinLine, conditionLine, orderLine}
-use Rattle.text.specs.Reading.{conditionsOf}
+use Rattle.text.specs.Lines.{JoinLine, joinLine, conditionLine, Line}
+use Rattle.text.specs.LineParts.{joinLines}
+use Rattle.text.specs.Reading.{firstConditions, conditionsOf}
 use Rattle.reader.specs.State.{noJoins}
 use Rattle.reader.specs.Survey.{start}
+use Rattle.reader.specs.Agrees.{linesAfter}
 use Rattle.reader.specs.Kept.{storedJoins, stored-joins, more, joins-kept}
-use Rattle.reader.specs.Query.{storedOf, done, stored-joined, stored-numbered, after-joins, kept-joins}
-use Rattle.reader.specs.declared.join_lines.Joins.{Joins}
+use Rattle.reader.specs.Query.{storedOf, done, stored-joined, stored-numbered, kept-joins}
 
 -- the conditions of a join are among the text's
-before-join : (i : ℕ) (ls : List Line) → i + (storedJoins i ls) .0 ≤ i + length (conditionsOf ls)
-unfolding storedJoins conditionsOf
+before-join : (i : ℕ) (ls : List JoinLine) → i + length (firstConditions i ls) ≤ i + length (conditionsOf ls)
+unfolding firstConditions conditionsOf
 before-join i [] = omega arith
 before-join i (joinLine k a b ∷ ls) = omega arith
 before-join i (conditionLine c ∷ ls) = let h = before-join (suc i) ls in omega arith
-before-join i (tableLine n ∷ ls) = before-join i ls
-before-join i (rowLine zs ∷ ls) = before-join i ls
-before-join i (orderLine a b ∷ ls) = before-join i ls
 
-within : (i : ℕ) (ls : List Line) (j : StoredJoin) → j isIn (storedJoins i ls) .1 → j .first + j .count ≤ i + length (conditionsOf ls)
+within : (i : ℕ) (ls : List JoinLine) (j : StoredJoin) → j isIn storedJoins i ls → j .first + j .count ≤ i + length (conditionsOf ls)
 unfolding storedJoins conditionsOf
 within i (joinLine k a b ∷ ls) j (here e) =
     subst (λ (x : StoredJoin). x .first + x .count ≤ i + length (conditionsOf ls)) (sym e) (before-join i ls)
 within i (joinLine k a b ∷ ls) j (there m) = within i ls j m
 within i (conditionLine c ∷ ls) j m = let h = within (suc i) ls j m in omega arith
-within i (tableLine n ∷ ls) j m = within i ls j m
-within i (rowLine zs ∷ ls) j m = within i ls j m
-within i (orderLine a b ∷ ls) j m = within i ls j m
 
 module _ (ls : List Line) where
   abbrev s : StoredQuery
   s = storedOf (done ls)
 
-  pub joins-room : length (s .joins) ≡ 7
-  unfolding storedOf start noJoins
+  pub joins-room : length (s .joins) ≡ mostJoins
+  unfolding storedOf linesAfter start noJoins
   joins-room =
-      ap (λ (j : Joins). length (set (j .joins) (j .count - 1) (j .latest))) (after-joins start ls)
-      ∙ ap length (joins-kept noJoins ls)
-      ∙ length-sets (set (noJoins .joins) (noJoins .count - 1) (more ((storedJoins 0 ls) .0) (noJoins .latest))) 0 ((storedJoins 0 ls) .1)
-      ∙ length-set (noJoins .joins) (noJoins .count - 1) (more ((storedJoins 0 ls) .0) (noJoins .latest))
+      ap length (joins-kept noJoins (joinLines ls))
+      ∙ length-sets (set (noJoins .joins) (noJoins .count - 1) (more (length (firstConditions 0 (joinLines ls))) (noJoins .latest))) 0 (storedJoins 0 (joinLines ls))
+      ∙ length-set (noJoins .joins) (noJoins .count - 1) (more (length (firstConditions 0 (joinLines ls))) (noJoins .latest))
 
-  joined : s .«join_count» ≡ length ((storedJoins 0 ls) .1)
-  joined = stored-joined ls ∙ sym (sym (length-map ((storedJoins 0 ls) .1) joinIn) ∙ ap length (stored-joins 0 ls))
+  joined : s .«join_count» ≡ length (storedJoins 0 (joinLines ls))
+  joined = stored-joined ls ∙ sym (sym (length-map (storedJoins 0 (joinLines ls)) joinIn) ∙ ap length (stored-joins 0 (joinLines ls)))
 
-  module _ (few : s .«join_count» ≤ 7) (i : ℕ) (b : i < s .«join_count») (d : StoredJoin) where
-    at-join : getD (s .joins) i d ≡ getD ((storedJoins 0 ls) .1) i d
-    at-join = sym (getD-take (length ((storedJoins 0 ls) .1)) (s .joins) i d (subst (λ (n : ℕ). i < n) joined b))
-        ∙ ap (λ (l : List StoredJoin). getD l i d) (kept-joins ls (subst (λ (n : ℕ). n ≤ 7) joined few))
+  module _ (few : s .«join_count» ≤ mostJoins) (i : ℕ) (b : i < s .«join_count») (d : StoredJoin) where
+    at-join : getD (s .joins) i d ≡ getD (storedJoins 0 (joinLines ls)) i d
+    at-join = sym (getD-take (length (storedJoins 0 (joinLines ls))) (s .joins) i d (subst (λ (n : ℕ). i < n) joined b))
+        ∙ ap (λ (l : List StoredJoin). getD l i d) (kept-joins ls (subst (λ (n : ℕ). n ≤ mostJoins) joined few))
 
     pub join-range : getD (s .joins) i d .first + getD (s .joins) i d .count ≤ s .«condition_count»
     join-range = rw (at-join, stored-numbered ls)
-        (let h = within 0 ls (getD ((storedJoins 0 ls) .1) i d) (getD-isIn ((storedJoins 0 ls) .1) i d (subst (λ (n : ℕ). i < n) joined b)) in
+        (let h = within 0 (joinLines ls) (getD (storedJoins 0 (joinLines ls)) i d) (getD-isIn (storedJoins 0 (joinLines ls)) i d (subst (λ (n : ℕ). i < n) joined b)) in
         omega arith)

@@ -1,18 +1,17 @@
 -- Serves the code's pass over the lines; no demand cites it. What the lines read so far leave in the code's structs, line by line.
 -- Assumes nothing.
-use mathlib.Core.Bool.{Bool, true, false, _&&_}
-use mathlib.Core.List.{List, [], _∷_}
+use mathlib.Core.Bool.{Bool, true, _&&_}
 use Prim.Native.Nat.{ℕ, _+_, _-_}
 use lib.Dec.{eqb, leb}
 use lib.ListN.{set, replicate}
 use Rattle.cells.specs.Choice.{if_then_else_}
+use Rattle.cells.specs.Limits.{mostTables, mostColumns, mostRows, mostCells, mostJoins, mostConditions, mostPairs}
 use Rattle.cells.specs.declared.condition.Condition.{Condition}
 use Rattle.cells.specs.declared.condition.Side.the-variants.{Column}
 use Rattle.cells.specs.declared.condition.Layout.{Layout}
 use Rattle.rows.specs.declared.kind.Kind.{Kind}
 use Rattle.rows.specs.declared.kind.Kind.the-variants.{Inner}
 use Rattle.plan.specs.declared.query.StoredJoin.{StoredJoin}
-use Rattle.plan.specs.declared.query.StoredPair.{StoredPair}
 use Rattle.reader.specs.declared.tables.Tables.{Tables}
 use Rattle.reader.specs.declared.join_lines.Joins.{Joins}
 use Rattle.reader.specs.declared.pairs.Pairs.{Pairs}
@@ -22,7 +21,7 @@ use Rattle.reader.specs.declared.pairs.Pairs.{Pairs}
 unfoldable pub noTables : Tables
 noTables = record {
   count = 0;
-  layout = record { offsets = replicate 8 0; rows = replicate 8 0; columns = replicate 8 0 };
+  layout = record { offsets = replicate mostTables 0; rows = replicate mostTables 0; columns = replicate mostTables 0 };
   columns = 0;
   rows = 0;
   cells = 0;
@@ -32,7 +31,7 @@ noTables = record {
 
 -- question 3 on one table more, with the rows of the one before it
 unfoldable pub tableFits : Bool → ℕ → ℕ → Bool
-tableFits fits rows columns = leb rows 256 && (leb 1 columns && (leb columns 8 && fits))
+tableFits fits rows columns = leb rows mostRows && (leb 1 columns && (leb columns mostColumns && fits))
 
 -- the latest table's rows, put into the layout
 unfoldable pub closedRows : Layout → ℕ → ℕ → Layout
@@ -54,9 +53,9 @@ afterTable s n = record {
   even = s .even;
 }
 
--- cells are counted on until there are more than 4,096
+-- cells are counted on until there are more than a report may have
 unfoldable pub cellsAfter : ℕ → ℕ → ℕ
-cellsAfter cells n = if leb n 4096 then (if leb cells 4096 then cells + n else 4097) else 4097
+cellsAfter cells n = if leb n mostCells then (if leb cells mostCells then cells + n else mostCells + 1) else mostCells + 1
 
 unfoldable pub afterRow : Tables → ℕ → Tables
 afterRow s n = record {
@@ -77,10 +76,10 @@ noJoin = record { kind = Inner; left = 0; right = 0; first = 0; count = 0 }
 unfoldable pub noJoins : Joins
 noJoins = record {
   count = 0;
-  joins = replicate 7 noJoin;
+  joins = replicate mostJoins noJoin;
   latest = noJoin;
   «condition_count» = 0;
-  conditions = replicate 64 (record { table = 0; column = 0; operator = 0; side = Column 0 0 });
+  conditions = replicate mostConditions (record { table = 0; column = 0; operator = 0; side = Column 0 0 });
 }
 
 unfoldable pub afterJoin : Joins → Kind → ℕ → ℕ → Joins
@@ -108,7 +107,7 @@ afterCondition s c = record {
 -- ---- P lines
 
 unfoldable pub noPairs : Pairs
-noPairs = record { count = 0; pairs = replicate 7 (record { left = 0; right = 0 }) }
+noPairs = record { count = 0; pairs = replicate mostPairs (record { left = 0; right = 0 }) }
 
 unfoldable pub afterPair : Pairs → ℕ → ℕ → Pairs
 afterPair s a b = record { count = s .count + 1; pairs = set (s .pairs) (s .count) (record { left = a; right = b }) }

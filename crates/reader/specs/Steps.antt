@@ -1,31 +1,32 @@
 -- Serves the code's pass over the lines; no demand cites it. The steps of State by the tests that the code makes. Assumes nothing.
-use mathlib.Core.Path.{_≡_, refl, sym, ap, _∙_}
-use mathlib.Core.Bool.{Bool, true, false, _&&_, and-true, and-false}
+use mathlib.Core.Path.{_≡_, sym}
+use mathlib.Core.Bool.{Bool, false, _&&_, and-true, and-false}
 use mathlib.Core.List.{List}
 use Prim.Native.Nat.{ℕ, _+_, _-_, _<_, _≤_}
 use lib.Dec.{eqb, leb}
 use lib.ListN.{length, set}
 use lib.Seq.{set-out}
 use borrow.Author.Tests.{le-leb, lt-leb, eq-eqb, ne-eqb}
+use Rattle.cells.specs.Limits.{mostTables, mostColumns, mostRows, mostCells}
 use Rattle.cells.specs.declared.condition.Layout.{Layout}
 use Rattle.reader.specs.State.{cellsAfter, tableFits, closedRows, openedTable}
 
 module _ (fits : Bool) (rows columns : ℕ) where
-  pub fits-rows : 256 < rows → false ≡ tableFits fits rows columns
+  pub fits-rows : mostRows < rows → false ≡ tableFits fits rows columns
   unfolding tableFits
-  fits-rows h = rw (lt-leb rows 256 h)
+  fits-rows h = rw (lt-leb rows mostRows h)
 
   pub fits-none : columns < 1 → false ≡ tableFits fits rows columns
   unfolding tableFits
-  fits-none h = rw (lt-leb 1 columns h, and-false (leb rows 256))
+  fits-none h = rw (lt-leb 1 columns h, and-false (leb rows mostRows))
 
-  pub fits-many : 8 < columns → false ≡ tableFits fits rows columns
+  pub fits-many : mostColumns < columns → false ≡ tableFits fits rows columns
   unfolding tableFits
-  fits-many h = rw (lt-leb columns 8 h, and-false (leb 1 columns), and-false (leb rows 256))
+  fits-many h = rw (lt-leb columns mostColumns h, and-false (leb 1 columns), and-false (leb rows mostRows))
 
-  pub fits-still : rows ≤ 256 → 1 ≤ columns → columns ≤ 8 → fits ≡ tableFits fits rows columns
+  pub fits-still : rows ≤ mostRows → 1 ≤ columns → columns ≤ mostColumns → fits ≡ tableFits fits rows columns
   unfolding tableFits
-  fits-still h k l = rw (le-leb rows 256 h, le-leb 1 columns k, le-leb columns 8 l)
+  fits-still h k l = rw (le-leb rows mostRows h, le-leb 1 columns k, le-leb columns mostColumns l)
 
 pub even-same : (even : Bool) (n columns : ℕ) → n ≡ columns → even ≡ (even && eqb n columns)
 even-same even n columns h = rw (eq-eqb n columns h, and-true even)
@@ -37,25 +38,25 @@ even-not even n columns h = rw (ne-eqb n columns h, and-false even)
 pub set-past : {A : Type 0} (l : List A) (i n : ℕ) (a : A) → length l ≡ n → n ≤ i → l ≡ set l i a
 set-past l i n a e h = sym (set-out l i a (rw e h))
 
-pub closed-past : (l : Layout) (count rows : ℕ) → length (l .rows) ≡ 8 → 8 ≤ count - 1 → l ≡ closedRows l count rows
+pub closed-past : (l : Layout) (count rows : ℕ) → length (l .rows) ≡ mostTables → mostTables ≤ count - 1 → l ≡ closedRows l count rows
 unfolding closedRows
 closed-past l count rows e h = rw (set-out (l .rows) (count - 1) rows (rw e h))
 
-pub opened-past : (l : Layout) (count offset columns : ℕ) → length (l .offsets) ≡ 8 → length (l .columns) ≡ 8 → 8 ≤ count
+pub opened-past : (l : Layout) (count offset columns : ℕ) → length (l .offsets) ≡ mostTables → length (l .columns) ≡ mostTables → mostTables ≤ count
     → l ≡ openedTable l count offset columns
 unfolding openedTable
 opened-past l count offset columns e g h =
     rw (set-out (l .offsets) count offset (rw e h), set-out (l .columns) count columns (rw g h))
 
 module _ (cells n : ℕ) where
-  pub cells-long : 4096 < n → 4097 ≡ cellsAfter cells n
+  pub cells-long : mostCells < n → mostCells + 1 ≡ cellsAfter cells n
   unfolding cellsAfter
-  cells-long h = rw (lt-leb n 4096 h)
+  cells-long h = rw (lt-leb n mostCells h)
 
-  pub cells-full : n ≤ 4096 → 4096 < cells → 4097 ≡ cellsAfter cells n
+  pub cells-full : n ≤ mostCells → mostCells < cells → mostCells + 1 ≡ cellsAfter cells n
   unfolding cellsAfter
-  cells-full h k = rw (le-leb n 4096 h, lt-leb cells 4096 k)
+  cells-full h k = rw (le-leb n mostCells h, lt-leb cells mostCells k)
 
-  pub cells-more : n ≤ 4096 → cells ≤ 4096 → cells + n ≡ cellsAfter cells n
+  pub cells-more : n ≤ mostCells → cells ≤ mostCells → cells + n ≡ cellsAfter cells n
   unfolding cellsAfter
-  cells-more h k = rw (le-leb n 4096 h, le-leb cells 4096 k)
+  cells-more h k = rw (le-leb n mostCells h, le-leb cells mostCells k)

@@ -1,64 +1,85 @@
--- Serves the code's pass over the lines; no demand cites it. The reading after a line, and after the lines that are left.
--- Assumes nothing.
-use mathlib.Core.Path.{_≡_, refl, sym, ap, _∙_}
-use mathlib.Core.Bool.{Bool, true, false}
+-- Serves the code's pass over the lines; no demand cites it. The place of a line, the reading after it, and after the lines that are
+-- left. Assumes nothing.
 use mathlib.Core.List.{List, [], _∷_}
 use mathlib.Core.Option.{Option, none, some}
-use Prim.Native.Nat.{ℕ, _+_, _-_, _<_, _≤_}
-use native.Mathlib.Omega.{arith}
+use Prim.Native.Nat.{ℕ, _≤_}
 use lib.Dec.{eqb, leb}
-use lib.ListN.{length, take, drop}
-use borrow.Author.Tests.{le-leb, lt-leb, eq-eqb, ne-eqb}
+use lib.ListN.{length}
 use Rattle.cells.specs.Choice.{if_then_else_}
-use Rattle.cells.specs.declared.condition.Condition.{Condition}
-use Rattle.rows.specs.declared.kind.Kind.{Kind}
-use Rattle.text.specs.Bytes.{Bytes, lineFeed}
+use Rattle.cells.specs.Limits.{mostBytes}
+use Rattle.text.specs.Bytes.{Bytes}
 use Rattle.text.specs.Lines.{lineOf}
-use Rattle.text.specs.Parts.{until, linesFrom, withLine, line-closed, line-open, lines-none}
+use Rattle.text.specs.Parts.{linesFrom}
 use Rattle.text.specs.Forms.{lineRead}
 use Rattle.text.specs.declared.line.LineRead.{LineRead}
 use Rattle.text.specs.declared.line.LineRead.the-variants as R
 use Rattle.reader.specs.State.{noTables, noJoins, noPairs, afterTable, afterRow, afterJoin, afterCondition, afterPair}
+use Rattle.reader.specs.declared.place.Place.{Place}
+use Rattle.reader.specs.declared.place.Next.{Next}
+use Rattle.reader.specs.declared.place.Next.the-variants as N
+use Rattle.reader.specs.declared.tables.Tables.{Tables}
+use Rattle.reader.specs.declared.join_lines.Joins.{Joins}
+use Rattle.reader.specs.declared.pairs.Pairs.{Pairs}
 use Rattle.reader.specs.declared.survey.Reading.{Reading}
 use Rattle.reader.specs.declared.survey.Stepped.{Stepped}
 
+-- ---- the place of a line
+
+abbrev pub nextIn : Next → Option Place
+nextIn (N.At p) = some p
+nextIn N.Nowhere = none
+
+unfoldable pub opensAt : Place → ℕ → Option Place
+opensAt p n = if leb (p .part) n then some (record { part = n }) else none
+
+unfoldable pub followsAt : Place → ℕ → Option Place
+followsAt p n = if eqb (p .part) n then some (record { part = n }) else none
+
+abbrev pub nextRead : Place → LineRead → Option Place
+nextRead p (R.Table n) = opensAt p 1
+nextRead p (R.Row n) = followsAt p 1
+nextRead p (R.Join k a b) = opensAt p 2
+nextRead p (R.Condition c) = followsAt p 2
+nextRead p (R.Order a b) = opensAt p 3
+nextRead p R.NoForm = none
+
+-- ---- one line more
+
 unfoldable pub start : Reading
-start = record { part = 0; tables = noTables; joins = noJoins; pairs = noPairs }
+start = record { place = record { part = 0 }; tables = noTables; joins = noJoins; pairs = noPairs }
+
+abbrev pub atPlace : Reading → Place → Reading
+atPlace s p = record { place = p; tables = s .tables; joins = s .joins; pairs = s .pairs }
+
+abbrev pub withTables : Reading → Tables → Reading
+withTables s t = record { place = s .place; tables = t; joins = s .joins; pairs = s .pairs }
+
+abbrev pub withJoins : Reading → Joins → Reading
+withJoins s j = record { place = s .place; tables = s .tables; joins = j; pairs = s .pairs }
+
+abbrev pub withPairs : Reading → Pairs → Reading
+withPairs s p = record { place = s .place; tables = s .tables; joins = s .joins; pairs = p }
+
+-- the reading with what a line says
+abbrev pub told : Reading → LineRead → Reading
+told s (R.Table n) = withTables s (afterTable (s .tables) n)
+told s (R.Row n) = withTables s (afterRow (s .tables) n)
+told s (R.Join k a b) = withJoins s (afterJoin (s .joins) k a b)
+told s (R.Condition c) = withJoins s (afterCondition (s .joins) c)
+told s (R.Order a b) = withPairs s (afterPair (s .pairs) a b)
+told s R.NoForm = s
+
+-- the reading after a line at its place
+unfoldable pub readAt : Reading → LineRead → Option Place → Option Reading
+readAt s x none = none
+readAt s x (some p) = some (atPlace (told s x) p)
+
+abbrev pub afterRead : Reading → LineRead → Option Reading
+afterRead s x = readAt s x (nextRead (s .place) x)
 
 -- the reading, if the line was accepted
 abbrev pub stepIn : Stepped → Option Reading
 stepIn r = if r .accepted then some (r .reading) else none
-
--- ---- one line more
-
-unfoldable pub onTable : Reading → ℕ → Option Reading
-onTable s n =
-    if leb (s .part) 1 then some (record { part = 1; tables = afterTable (s .tables) n; joins = s .joins; pairs = s .pairs }) else none
-
-unfoldable pub onRow : Reading → ℕ → Option Reading
-onRow s n =
-    if eqb (s .part) 1 then some (record { part = 1; tables = afterRow (s .tables) n; joins = s .joins; pairs = s .pairs }) else none
-
-unfoldable pub onJoin : Reading → Kind → ℕ → ℕ → Option Reading
-onJoin s k a b =
-    if leb (s .part) 2 then some (record { part = 2; tables = s .tables; joins = afterJoin (s .joins) k a b; pairs = s .pairs })
-    else none
-
-unfoldable pub onCondition : Reading → Condition → Option Reading
-onCondition s c =
-    if eqb (s .part) 2 then some (record { part = 2; tables = s .tables; joins = afterCondition (s .joins) c; pairs = s .pairs })
-    else none
-
-unfoldable pub onOrder : Reading → ℕ → ℕ → Option Reading
-onOrder s a b = some (record { part = 3; tables = s .tables; joins = s .joins; pairs = afterPair (s .pairs) a b })
-
-abbrev pub afterRead : Reading → LineRead → Option Reading
-afterRead s (R.Table n) = onTable s n
-afterRead s (R.Row n) = onRow s n
-afterRead s (R.Join k a b) = onJoin s k a b
-afterRead s (R.Condition c) = onCondition s c
-afterRead s (R.Order a b) = onOrder s a b
-afterRead s R.NoForm = none
 
 -- ---- the lines that are left
 
@@ -76,7 +97,7 @@ readFrom s (some ls) = readLines s ls
 
 -- the whole text: at most 16,384 bytes, every line closed, a form and a place
 unfoldable pub surveyOf : Bytes → Option Reading
-surveyOf bs = if leb (length bs) 16384 then readFrom start (linesFrom bs 0) else none
+surveyOf bs = if leb (length bs) mostBytes then readFrom start (linesFrom bs 0) else none
 
 -- ---- no count passes the lines that were read
 

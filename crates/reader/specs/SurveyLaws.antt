@@ -1,17 +1,15 @@
 -- Serves the code's pass over the lines; no demand cites it. The steps and the pass of Survey by the tests that the code makes.
 -- Assumes nothing.
 use mathlib.Core.Path.{_≡_, refl, sym, ap, _∙_, subst}
-use mathlib.Core.Bool.{Bool, true, false}
-use mathlib.Core.List.{List, [], _∷_}
+use mathlib.Core.Bool.{true, false}
+use mathlib.Core.List.{List}
 use mathlib.Core.Option.{Option, none, some}
 use Prim.Native.Nat.{ℕ, _+_, _-_, _<_, _≤_}
 use native.Mathlib.Omega.{arith}
-use lib.Dec.{eqb, leb}
 use lib.ListN.{length, take, drop}
 use borrow.Author.Tests.{le-leb, lt-leb, eq-eqb, ne-eqb}
-use Rattle.cells.specs.Choice.{if_then_else_}
-use Rattle.cells.specs.declared.condition.Condition.{Condition}
-use Rattle.rows.specs.declared.kind.Kind.{Kind}
+use Rattle.cells.specs.BoolLaws.{clash}
+use Rattle.cells.specs.Limits.{mostBytes}
 use Rattle.text.specs.Bytes.{Bytes, lineFeed}
 use Rattle.text.specs.Lines.{lineOf}
 use Rattle.text.specs.Parts.{until, linesFrom, withLine, line-closed, line-open, lines-none}
@@ -19,56 +17,48 @@ use Rattle.text.specs.Forms.{lineRead}
 use Rattle.text.specs.declared.line.LineRead.{LineRead}
 use Rattle.text.specs.declared.line.LineRead.the-variants as R
 use Rattle.reader.specs.State.{noTables, noJoins, noJoin, noPairs, afterTable, afterRow, afterJoin, oneMore, afterCondition, afterPair}
-use Rattle.reader.specs.Survey.{start, stepIn, onTable, onRow, onJoin, onCondition, onOrder, afterRead, onward, readLines, readFrom, surveyOf, Bounded}
+use Rattle.reader.specs.Survey.{opensAt, followsAt, nextRead, start, atPlace, withTables, told, readAt, afterRead, stepIn, onward, readLines, readFrom, surveyOf, Bounded}
+use Rattle.reader.specs.declared.place.Place.{Place}
 use Rattle.reader.specs.declared.tables.Tables.{Tables}
-use Rattle.reader.specs.declared.join_lines.Joins.{Joins}
-use Rattle.reader.specs.declared.pairs.Pairs.{Pairs}
 use Rattle.reader.specs.declared.survey.Reading.{Reading}
 use Rattle.reader.specs.declared.survey.Stepped.{Stepped}
 
+-- ---- the place of a line
+
+module _ (p : Place) (n : ℕ) where
+  pub opens-there : p .part ≤ n → some (record { part = n }) ≡ opensAt p n
+  unfolding opensAt
+  opens-there h = rw (le-leb (p .part) n h)
+
+  pub opens-nowhere : n < p .part → none ≡ opensAt p n
+  unfolding opensAt
+  opens-nowhere h = rw (lt-leb (p .part) n h)
+
+  pub follows-there : p .part ≡ n → some (record { part = n }) ≡ followsAt p n
+  unfolding followsAt
+  follows-there h = rw (eq-eqb (p .part) n h)
+
+  pub follows-nowhere : (p .part ≡ n → ⊥) → none ≡ followsAt p n
+  unfolding followsAt
+  follows-nowhere h = rw (ne-eqb (p .part) n h)
+
 -- ---- one line more
 
-module _ (s : Reading) where
-  pub table-refused : (n : ℕ) → 1 < s .part → none ≡ onTable s n
-  unfolding onTable
-  table-refused n h = rw (lt-leb (s .part) 1 h)
+module _ (s : Reading) (x : LineRead) where
+  pub read-there : {p : Place} {t : Reading} → some p ≡ nextRead (s .place) x → t ≡ told s x → some (atPlace t p) ≡ afterRead s x
+  unfolding readAt
+  read-there {p} e g = ap (λ (u : Reading). some (atPlace u p)) g ∙ ap (readAt s x) e
 
-  pub table-accepted : (n : ℕ) {t : Tables} → s .part ≤ 1 → t ≡ afterTable (s .tables) n
-      → some (record { part = 1; tables = t; joins = s .joins; pairs = s .pairs }) ≡ onTable s n
-  unfolding onTable
-  table-accepted n h e = rw (e, le-leb (s .part) 1 h)
+  pub read-nowhere : none ≡ nextRead (s .place) x → none ≡ afterRead s x
+  unfolding readAt
+  read-nowhere e = ap (readAt s x) e
 
-  pub row-refused : (n : ℕ) → (s .part ≡ 1 → ⊥) → none ≡ onRow s n
-  unfolding onRow
-  row-refused n h = rw (ne-eqb (s .part) 1 h)
-
-  pub row-accepted : (n : ℕ) {t : Tables} → s .part ≡ 1 → t ≡ afterRow (s .tables) n
-      → some (record { part = 1; tables = t; joins = s .joins; pairs = s .pairs }) ≡ onRow s n
-  unfolding onRow
-  row-accepted n h e = rw (e, eq-eqb (s .part) 1 h)
-
-  pub join-refused : (k : Kind) (a b : ℕ) → 2 < s .part → none ≡ onJoin s k a b
-  unfolding onJoin
-  join-refused k a b h = rw (lt-leb (s .part) 2 h)
-
-  pub join-accepted : (k : Kind) (a b : ℕ) {j : Joins} → s .part ≤ 2 → j ≡ afterJoin (s .joins) k a b
-      → some (record { part = 2; tables = s .tables; joins = j; pairs = s .pairs }) ≡ onJoin s k a b
-  unfolding onJoin
-  join-accepted k a b h e = rw (e, le-leb (s .part) 2 h)
-
-  pub condition-refused : (d : Condition) → (s .part ≡ 2 → ⊥) → none ≡ onCondition s d
-  unfolding onCondition
-  condition-refused d h = rw (ne-eqb (s .part) 2 h)
-
-  pub condition-accepted : (d : Condition) {j : Joins} → s .part ≡ 2 → j ≡ afterCondition (s .joins) d
-      → some (record { part = 2; tables = s .tables; joins = j; pairs = s .pairs }) ≡ onCondition s d
-  unfolding onCondition
-  condition-accepted d h e = rw (e, eq-eqb (s .part) 2 h)
-
-  pub order-accepted : (a b : ℕ) {p : Pairs} → p ≡ afterPair (s .pairs) a b
-      → some (record { part = 3; tables = s .tables; joins = s .joins; pairs = p }) ≡ onOrder s a b
-  unfolding onOrder
-  order-accepted a b e = rw e
+-- a D line in the tables part stays there
+pub row-there : (s : Reading) (n : ℕ) {t : Tables} → s .place .part ≡ 1 → t ≡ afterRow (s .tables) n
+    → some (withTables s t) ≡ afterRead s (R.Row n)
+row-there s n h e =
+    read-there s (R.Row n) (subst (λ (k : ℕ). some (record { part = k }) ≡ followsAt (s .place) 1) (sym h) (follows-there (s .place) 1 h))
+    (ap (withTables s) e)
 
 -- what an answer says
 pub step-accepted : (r : Stepped) → r .accepted ≡ true → some (r .reading) ≡ stepIn r
@@ -79,13 +69,13 @@ step-refused r h = rw h
 
 -- ---- the lines that are left
 
-pub survey-long : (bs : Bytes) → 16384 < length bs → none ≡ surveyOf bs
+pub survey-long : (bs : Bytes) → mostBytes < length bs → none ≡ surveyOf bs
 unfolding surveyOf
-survey-long bs h = rw (lt-leb (length bs) 16384 h)
+survey-long bs h = rw (lt-leb (length bs) mostBytes h)
 
-pub survey-start : (bs : Bytes) {s : Reading} → length bs ≤ 16384 → s ≡ start → surveyOf bs ≡ readFrom s (linesFrom bs 0)
+pub survey-start : (bs : Bytes) {s : Reading} → length bs ≤ mostBytes → s ≡ start → surveyOf bs ≡ readFrom s (linesFrom bs 0)
 unfolding surveyOf
-survey-start bs h e = rw (le-leb (length bs) 16384 h, e)
+survey-start bs h e = rw (le-leb (length bs) mostBytes h, e)
 
 from-line : (s : Reading) (l : Bytes) (o : Option (List Bytes))
     → readFrom s (withLine l o) ≡ onward (λ (t : Reading). readFrom t o) (afterRead s (lineRead (lineOf l)))
@@ -127,20 +117,19 @@ pub bounded-start : (s : Reading) → s ≡ start → Bounded 0 s
 unfolding start noTables noJoins noJoin noPairs
 bounded-start s e = rw e (omega arith, omega arith, omega arith, omega arith, omega arith, omega arith)
 
-from-if : (b : Bool) {s t : Reading} → some t ≡ (if b then some s else none) → t ≡ s
-from-if true {s} {t} e = cc
-from-if false e = absurd (let z : _≡_ {A = ℕ} 0 1 = cc in omega arith)
+bounded-told : (m n : ℕ) (s : Reading) (x : LineRead) → Bounded m s → m < n → Bounded n (told s x)
+unfolding afterTable afterRow afterJoin afterCondition oneMore afterPair
+bounded-told m n s (R.Table k) b h = (omega arith, omega arith, omega arith, omega arith, omega arith, omega arith)
+bounded-told m n s (R.Row k) b h = (omega arith, omega arith, omega arith, omega arith, omega arith, omega arith)
+bounded-told m n s (R.Join k a d) b h = (omega arith, omega arith, omega arith, omega arith, omega arith, omega arith)
+bounded-told m n s (R.Condition c) b h = (omega arith, omega arith, omega arith, omega arith, omega arith, omega arith)
+bounded-told m n s (R.Order a d) b h = (omega arith, omega arith, omega arith, omega arith, omega arith, omega arith)
+bounded-told m n s R.NoForm b h = (omega arith, omega arith, omega arith, omega arith, omega arith, omega arith)
 
 pub bounded-next : (m n : ℕ) (s t : Reading) (x : LineRead) → Bounded m s → m < n → some t ≡ afterRead s x → Bounded n t
-unfolding onTable onRow onJoin onCondition onOrder afterTable afterRow afterJoin afterCondition oneMore afterPair
-bounded-next m n s t (R.Table k) b h e =
-    rw (from-if (leb (s .part) 1) e) (omega arith, omega arith, omega arith, omega arith, omega arith, omega arith)
-bounded-next m n s t (R.Row k) b h e =
-    rw (from-if (eqb (s .part) 1) e) (omega arith, omega arith, omega arith, omega arith, omega arith, omega arith)
-bounded-next m n s t (R.Join k a d) b h e =
-    rw (from-if (leb (s .part) 2) e) (omega arith, omega arith, omega arith, omega arith, omega arith, omega arith)
-bounded-next m n s t (R.Condition c) b h e =
-    rw (from-if (eqb (s .part) 2) e) (omega arith, omega arith, omega arith, omega arith, omega arith, omega arith)
-bounded-next m n s t (R.Order a d) b h e =
-    rw (from-if true e) (omega arith, omega arith, omega arith, omega arith, omega arith, omega arith)
-bounded-next m n s t R.NoForm b h e = absurd (let z : _≡_ {A = ℕ} 0 1 = cc in omega arith)
+unfolding readAt
+bounded-next m n s t x b h e = go (nextRead (s .place) x) e
+  where
+    go : (o : Option Place) → some t ≡ readAt s x o → Bounded n t
+    go none e = clash cc
+    go (some p) e = let z : t ≡ atPlace (told s x) p = cc in rw z (bounded-told m n s x b h)

@@ -4,18 +4,19 @@ use mathlib.Core.Path.{_≡_, refl, sym, ap, _∙_}
 use mathlib.Core.List.{List, [], _∷_, map}
 use Prim.Native.Nat.{ℕ, zero, suc, _-_, _≤_}
 use lib.ListN.{length, take, set, length-map, length-set}
-use Rattle.cells.specs.declared.condition.Condition.{Condition}
-use Rattle.plan.specs.Report.{Table, Join, queryOf, tableCount}
+use Rattle.cells.specs.Limits.{mostTables, mostJoins, mostConditions, mostPairs}
+use Rattle.plan.specs.Report.{Table, queryOf, tableCount}
 use Rattle.plan.specs.Stored.{joinIn, pairIn, queryIn}
 use Rattle.plan.specs.declared.query.StoredJoin.{StoredJoin}
 use Rattle.plan.specs.declared.query.StoredQuery.{StoredQuery}
 use Rattle.text.specs.Lines.{Line}
-use Rattle.text.specs.Reading.{tablesOf, joinsOf, conditionsOf, pairsOf, reportOf}
+use Rattle.text.specs.LineParts.{joinLines}
+use Rattle.text.specs.Reading.{firstConditions, tablesIn, conditionsIn, pairsIn, reportOf}
 use Rattle.reader.specs.State.{noJoins}
 use Rattle.reader.specs.Survey.{start}
+use Rattle.reader.specs.Agrees.{linesAfter}
 use Rattle.reader.specs.Kept.{storedJoins, stored-joins, more, joins-kept, conditions-kept}
-use Rattle.reader.specs.Query.{storedOf, done, stored-tables, stored-joined, stored-numbered, stored-paired, after-joins, kept-columns, kept-pairs, back-pairs, sets-kept}
-use Rattle.reader.specs.declared.join_lines.Joins.{Joins}
+use Rattle.reader.specs.Query.{storedOf, done, stored-tables, stored-joined, stored-numbered, stored-paired, kept-columns, kept-pairs, back-pairs, sets-kept}
 
 map-take : {A B : Type 0} (f : A → B) (n : ℕ) (l : List A) → map f (take n l) ≡ take n (map f l)
 map-take f zero l = refl
@@ -28,7 +29,7 @@ module _ (ls : List Line) where
 
   pub table-count : kept .«table_count» ≡ tableCount (queryOf (reportOf ls))
   unfolding tableCount queryOf reportOf
-  table-count = stored-tables ls ∙ sym (length-map ((tablesOf ls) .1) (λ (t : Table). t .columns))
+  table-count = stored-tables ls ∙ sym (length-map (tablesIn ls) (λ (t : Table). t .columns))
 
   pub join-count : kept .«join_count» ≡ length (queryOf (reportOf ls) .joins)
   unfolding queryOf reportOf
@@ -42,41 +43,39 @@ module _ (ls : List Line) where
   unfolding queryOf reportOf
   pair-count = stored-paired ls
 
-  pub columns-whole : length ((tablesOf ls) .1) ≤ 8 → queryIn kept .columns ≡ queryOf (reportOf ls) .columns
+  pub columns-whole : length (tablesIn ls) ≤ mostTables → queryIn kept .columns ≡ queryOf (reportOf ls) .columns
   unfolding queryIn queryOf reportOf
   columns-whole h = rw (stored-tables ls) (kept-columns ls h)
 
-  first-joins : take (length ((storedJoins 0 ls) .1)) (kept .joins) ≡ take 7 ((storedJoins 0 ls) .1)
-  unfolding storedOf start noJoins
+  first-joins : take (length (storedJoins 0 (joinLines ls))) (kept .joins) ≡ take mostJoins (storedJoins 0 (joinLines ls))
+  unfolding storedOf linesAfter start noJoins
   first-joins =
-      let room : List StoredJoin = set (noJoins .joins) (noJoins .count - 1) (more ((storedJoins 0 ls) .0) (noJoins .latest)) in
-      ap (λ (j : Joins). take (length ((storedJoins 0 ls) .1)) (set (j .joins) (j .count - 1) (j .latest))) (after-joins start ls)
-      ∙ ap (take (length ((storedJoins 0 ls) .1))) (joins-kept noJoins ls)
-      ∙ sets-kept room ((storedJoins 0 ls) .1)
-      ∙ ap (λ (n : ℕ). take n ((storedJoins 0 ls) .1))
-      (length-set (noJoins .joins) (noJoins .count - 1) (more ((storedJoins 0 ls) .0) (noJoins .latest)))
+      let room : List StoredJoin = set (noJoins .joins) (noJoins .count - 1) (more (length (firstConditions 0 (joinLines ls))) (noJoins .latest)) in
+      ap (take (length (storedJoins 0 (joinLines ls)))) (joins-kept noJoins (joinLines ls))
+      ∙ sets-kept room (storedJoins 0 (joinLines ls))
+      ∙ ap (λ (n : ℕ). take n (storedJoins 0 (joinLines ls)))
+      (length-set (noJoins .joins) (noJoins .count - 1) (more (length (firstConditions 0 (joinLines ls))) (noJoins .latest)))
 
-  pub joins-whole : queryIn kept .joins ≡ take 7 (queryOf (reportOf ls) .joins)
+  pub joins-whole : queryIn kept .joins ≡ take mostJoins (queryOf (reportOf ls) .joins)
   unfolding queryIn queryOf reportOf
   joins-whole =
-      let n : kept .«join_count» ≡ length ((storedJoins 0 ls) .1) =
-      stored-joined ls ∙ sym (sym (length-map ((storedJoins 0 ls) .1) joinIn) ∙ ap length (stored-joins 0 ls)) in
+      let n : kept .«join_count» ≡ length (storedJoins 0 (joinLines ls)) =
+      stored-joined ls ∙ sym (sym (length-map (storedJoins 0 (joinLines ls)) joinIn) ∙ ap length (stored-joins 0 (joinLines ls))) in
       ap (λ (k : ℕ). map joinIn (take k (kept .joins))) n
       ∙ ap (map joinIn) first-joins
-      ∙ map-take joinIn 7 ((storedJoins 0 ls) .1)
-      ∙ ap (take 7) (stored-joins 0 ls)
+      ∙ map-take joinIn mostJoins (storedJoins 0 (joinLines ls))
+      ∙ ap (take mostJoins) (stored-joins 0 (joinLines ls))
 
-  first-conditions : take (length (conditionsOf ls)) (kept .conditions) ≡ take 64 (conditionsOf ls)
-  unfolding storedOf start noJoins
+  first-conditions : take (length (conditionsIn ls)) (kept .conditions) ≡ take mostConditions (conditionsIn ls)
+  unfolding storedOf linesAfter start noJoins
   first-conditions =
-      ap (λ (j : Joins). take (length (conditionsOf ls)) (j .conditions)) (after-joins start ls)
-      ∙ ap (take (length (conditionsOf ls))) (conditions-kept noJoins ls)
-      ∙ sets-kept (noJoins .conditions) (conditionsOf ls)
+      ap (take (length (conditionsIn ls))) (conditions-kept noJoins (joinLines ls))
+      ∙ sets-kept (noJoins .conditions) (conditionsIn ls)
 
-  pub conditions-whole : queryIn kept .conditions ≡ take 64 (queryOf (reportOf ls) .conditions)
+  pub conditions-whole : queryIn kept .conditions ≡ take mostConditions (queryOf (reportOf ls) .conditions)
   unfolding queryIn queryOf reportOf
   conditions-whole = rw (stored-numbered ls) first-conditions
 
-  pub pairs-whole : queryIn kept .pairs ≡ take 7 (queryOf (reportOf ls) .pairs)
+  pub pairs-whole : queryIn kept .pairs ≡ take mostPairs (queryOf (reportOf ls) .pairs)
   unfolding queryIn queryOf reportOf
-  pairs-whole = rw (stored-paired ls) (ap (map pairIn) (kept-pairs ls) ∙ back-pairs 7 (pairsOf ls))
+  pairs-whole = rw (stored-paired ls) (ap (map pairIn) (kept-pairs ls) ∙ back-pairs mostPairs (pairsIn ls))

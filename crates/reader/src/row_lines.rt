@@ -6,6 +6,7 @@ use text::line::LineRead;
 use text::part;
 ghost use Prim.Native.Nat.{_≤_};
 ghost use lib.ListN.{length};
+ghost use Rattle.cells.specs.Limits.{mostBytes};
 ghost use Rattle.reader.specs.RowLines.{RowsTo};
 
 // The place after a run of D lines, and the tables with its rows.
@@ -16,7 +17,7 @@ pub struct RowsRead {
 
 // The D lines from place `from` on, up to the first line that has another form or is not closed.
 pub(crate) fn read_rows(text: &[u8], from: usize, before: Tables) -> RowsRead
-    requires { ⌜ (from ≤ length (now text)) × (length (now text) ≤ 16384) × (before .rows ≤ from) ⌝ }
+    requires { ⌜ (from ≤ length (now text)) × (length (now text) ≤ mostBytes) × (before .rows ≤ from) ⌝ }
     ensures { λ r. ⌜ RowsTo (now (text .entry)) from before (r .at) (r .tables) ⌝ }
 {
     let mut t = before;

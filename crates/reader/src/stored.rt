@@ -3,12 +3,12 @@ use crate::join_lines;
 use crate::survey::Reading;
 use crate::tables;
 use crate::tables::Tables;
+use cells::limits::CELLS;
+use cells::limits::ROWS;
+use cells::limits::TABLES;
 use plan::query::StoredQuery;
 ghost use mathlib.Core.Path.{_≡_};
 ghost use Rattle.reader.specs.Query.{storedOf, tablesFit};
-
-// The most tables of a report.
-const MOST: u16 = 8;
 
 // The latest table's rows and the latest join are put into their arrays.
 pub fn stored(s: Reading) -> StoredQuery
@@ -43,13 +43,13 @@ pub fn tables_fit(t: Tables) -> bool
     if t.count < 1 {
         return false;
     }
-    if MOST < t.count {
+    if TABLES < (t.count as usize) {
         return false;
     }
-    if tables::ROWS < t.rows {
+    if ROWS < (t.rows as usize) {
         return false;
     }
-    if tables::CELLS < t.cells {
+    if CELLS < t.cells {
         return false;
     }
     t.fits

@@ -3,23 +3,26 @@ use crate::join_lines;
 use crate::join_lines::Joins;
 use crate::pairs;
 use crate::pairs::Pairs;
+use crate::place;
+use crate::place::Next;
+use crate::place::Place;
 use crate::row_lines;
 use crate::tables;
 use crate::tables::Tables;
-use cells::condition::Condition;
-use rows::kind::Kind;
+use cells::limits::BYTES;
 use text::line;
 use text::line::LineRead;
 use text::part;
 ghost use mathlib.Core.Path.{_≡_};
-ghost use Prim.Native.Nat.{_<_, _≤_};
+ghost use Prim.Native.Nat.{_≤_};
 ghost use lib.ListN.{length};
-ghost use Rattle.reader.specs.Survey.{start, stepIn, onTable, onRow, onJoin, onCondition, onOrder, afterRead, Bounded, surveyOf};
+ghost use Rattle.cells.specs.Limits.{mostBytes};
+ghost use Rattle.reader.specs.Survey.{start, withTables, withJoins, withPairs, told, stepIn, afterRead, Bounded, surveyOf};
 ghost use Rattle.reader.specs.RowLines.{ReadsTo};
 
-// The part of the text that the latest line belongs to: 0 at the start, 1 tables, 2 joins, 3 order.
+// The place of the latest line, and what the lines of each part said so far.
 pub struct Reading {
-    pub part: u8,
+    pub place: Place,
     pub tables: Tables,
     pub joins: Joins,
     pub pairs: Pairs,
@@ -37,16 +40,6 @@ pub struct ReadTo {
     pub reading: Reading,
 }
 
-// The parts of a text.
-const TABLES: u8 = 1;
-
-const JOINS: u8 = 2;
-
-const ORDER: u8 = 3;
-
-// The most bytes of a text.
-const BYTES: usize = 16384;
-
 // No line yet.
 pub fn start() -> Reading
     ensures { λ r. ⌜ r ≡ start ⌝ }
@@ -55,176 +48,103 @@ pub fn start() -> Reading
     let j = join_lines::no_joins();
     let p = pairs::no_pairs();
     Reading {
-        part: 0,
+        place: Place { part: 0 },
         tables: t,
         joins: j,
         pairs: p,
     }
 }
 
-// A T line more.
-fn on_table(s: Reading, columns: u16) -> Stepped
-    requires { ⌜ s .tables .count < 65535 ⌝ }
-    ensures { λ r. ⌜ stepIn r ≡ onTable s columns ⌝ }
+// The reading with other tables, joins or pairs.
+fn with_tables(s: Reading, t: Tables) -> Reading
+    ensures { λ r. ⌜ r ≡ withTables s t ⌝ }
 {
-    if TABLES < s.part {
-        return Stepped {
-            accepted: false,
-            reading: s,
-        };
-    }
-    let before = s.tables;
-    let t = tables::after_table(before, columns);
-    let j = s.joins;
-    let p = s.pairs;
-    Stepped {
-        accepted: true,
-        reading: Reading {
-            part: TABLES,
-            tables: t,
-            joins: j,
-            pairs: p,
-        },
-    }
+    let mut next = s;
+    next.tables = t;
+    next
 }
 
-// A D line of `n` cells more.
-fn on_row(s: Reading, n: usize) -> Stepped
-    requires { ⌜ s .tables .rows < 65535 ⌝ }
-    ensures { λ r. ⌜ stepIn r ≡ onRow s n ⌝ }
+fn with_joins(s: Reading, j: Joins) -> Reading
+    ensures { λ r. ⌜ r ≡ withJoins s j ⌝ }
 {
-    if s.part != TABLES {
-        return Stepped {
-            accepted: false,
-            reading: s,
-        };
-    }
-    let before = s.tables;
-    let t = tables::after_row(before, n);
-    let j = s.joins;
-    let p = s.pairs;
-    Stepped {
-        accepted: true,
-        reading: Reading {
-            part: TABLES,
-            tables: t,
-            joins: j,
-            pairs: p,
-        },
-    }
+    let mut next = s;
+    next.joins = j;
+    next
 }
 
-// A J line more.
-fn on_join(s: Reading, kind: Kind, left: u16, right: u16) -> Stepped
-    requires { ⌜ s .joins .count < 65535 ⌝ }
-    ensures { λ r. ⌜ stepIn r ≡ onJoin s kind left right ⌝ }
+fn with_pairs(s: Reading, p: Pairs) -> Reading
+    ensures { λ r. ⌜ r ≡ withPairs s p ⌝ }
 {
-    if JOINS < s.part {
-        return Stepped {
-            accepted: false,
-            reading: s,
-        };
-    }
-    let before = s.joins;
-    let t = s.tables;
-    let j = join_lines::after_join(before, kind, left, right);
-    let p = s.pairs;
-    Stepped {
-        accepted: true,
-        reading: Reading {
-            part: JOINS,
-            tables: t,
-            joins: j,
-            pairs: p,
-        },
-    }
+    let mut next = s;
+    next.pairs = p;
+    next
 }
 
-// A C or K line more.
-fn on_condition(s: Reading, c: Condition) -> Stepped
-    requires { ⌜ (s .joins .«condition_count» < 65535) × (s .joins .latest .count < 65535) ⌝ }
-    ensures { λ r. ⌜ stepIn r ≡ onCondition s c ⌝ }
+// The reading with what a line says.
+fn with_line(s: Reading, x: LineRead) -> Reading
+    requires { ⌜ Bounded mostBytes s ⌝ }
+    ensures { λ r. ⌜ r ≡ told s x ⌝ }
 {
-    if s.part != JOINS {
-        return Stepped {
-            accepted: false,
-            reading: s,
-        };
-    }
-    let before = s.joins;
-    let t = s.tables;
-    let j = join_lines::after_condition(before, c);
-    let p = s.pairs;
-    Stepped {
-        accepted: true,
-        reading: Reading {
-            part: JOINS,
-            tables: t,
-            joins: j,
-            pairs: p,
-        },
-    }
-}
-
-// A P line more.
-fn on_order(s: Reading, left: u16, right: u16) -> Stepped
-    requires { ⌜ s .pairs .count < 65535 ⌝ }
-    ensures { λ r. ⌜ stepIn r ≡ onOrder s left right ⌝ }
-{
-    let before = s.pairs;
-    let t = s.tables;
-    let j = s.joins;
-    let p = pairs::after_pair(before, left, right);
-    Stepped {
-        accepted: true,
-        reading: Reading {
-            part: ORDER,
-            tables: t,
-            joins: j,
-            pairs: p,
-        },
+    match x {
+        LineRead::Table(n) => {
+            let t = tables::after_table(s.tables, n);
+            with_tables(s, t)
+        }
+        LineRead::Row(n) => {
+            let t = tables::after_row(s.tables, n);
+            with_tables(s, t)
+        }
+        LineRead::Join(k, l, r) => {
+            let j = join_lines::after_join(s.joins, k, l, r);
+            with_joins(s, j)
+        }
+        LineRead::Condition(c) => {
+            let j = join_lines::after_condition(s.joins, c);
+            with_joins(s, j)
+        }
+        LineRead::Order(l, r) => {
+            let p = pairs::after_pair(s.pairs, l, r);
+            with_pairs(s, p)
+        }
+        LineRead::NoForm => s,
     }
 }
 
 // A line more.
 fn after_line(s: Reading, x: LineRead) -> Stepped
-    requires { ⌜ Bounded 16384 s ⌝ }
+    requires { ⌜ Bounded mostBytes s ⌝ }
     ensures { λ r. ⌜ stepIn r ≡ afterRead s x ⌝ }
 {
-    match x {
-        LineRead::Table(n) => on_table(s, n),
-        LineRead::Row(n) => on_row(s, n),
-        LineRead::Join(k, l, r) => on_join(s, k, l, r),
-        LineRead::Condition(c) => on_condition(s, c),
-        LineRead::Order(l, r) => on_order(s, l, r),
-        LineRead::NoForm => Stepped {
+    let n = place::next_place(s.place, x);
+    let Next::At(p) = n else {
+        return Stepped {
             accepted: false,
             reading: s,
-        },
+        };
+    };
+    let mut next = with_line(s, x);
+    next.place = p;
+    Stepped {
+        accepted: true,
+        reading: next,
     }
 }
 
 // A run of D lines more, where there is one at place `at` of the tables part.
 fn with_rows(text: &[u8], at: usize, s: Reading) -> ReadTo
-    requires { ⌜ (at ≤ length (now text)) × (length (now text) ≤ 16384) × Bounded at s ⌝ }
+    requires { ⌜ (at ≤ length (now text)) × (length (now text) ≤ mostBytes) × Bounded at s ⌝ }
     ensures { λ r. ⌜ ReadsTo (now (text .entry)) at s (r .at) (r .reading) ⌝ }
 {
-    if s.part != TABLES {
+    if s.place.part != place::TABLES {
         return ReadTo { at: at, reading: s };
     }
     let before = s.tables;
     let rows = row_lines::read_rows(text, at, before);
     let t = rows.tables;
-    let j = s.joins;
-    let p = s.pairs;
+    let next = with_tables(s, t);
     ReadTo {
         at: rows.at,
-        reading: Reading {
-            part: TABLES,
-            tables: t,
-            joins: j,
-            pairs: p,
-        },
+        reading: next,
     }
 }
 

@@ -1,6 +1,9 @@
 // What the T and D lines read so far say.
 use cells::condition::Layout;
-use cells::condition::TABLES;
+use cells::limits::CELLS;
+use cells::limits::COLUMNS;
+use cells::limits::ROWS;
+use cells::limits::TABLES;
 ghost use mathlib.Core.Path.{_≡_};
 ghost use Prim.Native.Nat.{_+_, _-_, _<_, _≤_};
 ghost use lib.ListN.{set};
@@ -19,14 +22,6 @@ pub struct Tables {
     pub fits: bool,
     pub even: bool,
 }
-
-// The most columns and rows of a table.
-const COLUMNS: u16 = 8;
-
-pub const ROWS: u16 = 256;
-
-// The most cells of a report.
-pub const CELLS: usize = 4096;
 
 // No line yet.
 pub fn no_tables() -> Tables
@@ -51,13 +46,13 @@ pub fn no_tables() -> Tables
 pub fn table_fits(fits: bool, rows: u16, columns: u16) -> bool
     ensures { λ r. ⌜ r ≡ tableFits fits rows columns ⌝ }
 {
-    if ROWS < rows {
+    if ROWS < (rows as usize) {
         return false;
     }
     if columns < 1 {
         return false;
     }
-    if COLUMNS < columns {
+    if COLUMNS < (columns as usize) {
         return false;
     }
     fits

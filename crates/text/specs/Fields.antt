@@ -1,20 +1,19 @@
 -- Serves the code's readers of fields; no demand cites it. The fields of a line by the tests that the code makes. Assumes nothing.
-use mathlib.Core.Path.{_≡_, refl, sym, ap, _∙_, subst}
-use mathlib.Core.Bool.{Bool, true, false, _&&_, and-false}
+use mathlib.Core.Path.{_≡_, refl, ap, _∙_}
+use mathlib.Core.Bool.{and-false}
 use mathlib.Core.List.{List, [], _∷_}
 use mathlib.Core.Option.{Option, none, some}
-use Prim.Native.Nat.{ℕ, zero, suc, _+_, _-_, _<_, _≤_}
+use Prim.Native.Nat.{ℕ, _+_, _-_, _<_, _≤_}
 use native.Mathlib.Omega.{arith}
 use lib.Dec.{eqb}
 use lib.ListN.{length, getD, take, drop, length-take, length-drop}
 use lib.Seq.{getD-take, getD-drop}
 use native.Mathlib.Nat.{add-zero}
-use borrow.Author.Tests.{eq-eqb, ne-eqb}
-use Rattle.cells.specs.Choice.{if_then_else_}
+use borrow.Author.Tests.{ne-eqb}
 use Rattle.rows.specs.declared.kind.Kind.{Kind}
 use Rattle.rows.specs.declared.kind.Kind.the-variants.{Inner, Outer}
 use Rattle.text.specs.Bytes.{Bytes, bytes, tab, sameBytes}
-use Rattle.text.specs.Lines.{JoinKind, innerJoin, leftOuterJoin, kindOf, Form, field, oneOf, numberField, operatorField, kindField}
+use Rattle.text.specs.Lines.{JoinKind, innerJoin, leftOuterJoin, kindOf, Form, field, oneOf, numberField, kindField}
 use Rattle.text.specs.Ranges.{same-one, differ-one, differ-length}
 use Rattle.text.specs.Parts.{until, fieldsFrom, field-here, fields-none}
 

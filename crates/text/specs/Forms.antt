@@ -1,29 +1,22 @@
 -- Serves the code's readers of lines; no demand cites it but what a line's reading says, `lineRead`. The forms of lines behind
 -- their letters. Assumes nothing.
-use mathlib.Core.Path.{_≡_, refl, sym, ap, _∙_, subst}
-use mathlib.Core.Bool.{Bool, true, false, _&&_, and-false}
+use mathlib.Core.Path.{_≡_, refl, sym, ap, _∙_}
 use mathlib.Core.List.{List, [], _∷_}
 use mathlib.Core.Option.{Option, none, some}
-use Prim.Native.Nat.{ℕ, zero, suc, _+_, _-_, _<_, _≤_}
-use Prim.Native.String.{String}
-use native.Mathlib.Nat.{add-zero, zero-add, add-suc, suc-add}
-use native.Mathlib.Numerals.{add-one}
+use Prim.Native.Nat.{ℕ, _+_, _-_, _<_, _≤_}
+use native.Mathlib.Nat.{add-zero, zero-add}
 use native.Mathlib.Omega.{arith}
-use lib.Dec.{eqb}
 use lib.IntN.{ℤ}
 use lib.Signed.{mag}
-use lib.ListN.{length, getD, take, drop, length-take, length-drop}
-use lib.Seq.{getD-take, length-take-le}
-use borrow.Author.Tests.{eq-eqb, ne-eqb}
-use Rattle.cells.specs.Choice.{if_then_else_}
+use lib.ListN.{length, take, drop}
 use Rattle.cells.specs.declared.condition.Condition.{Condition}
 use Rattle.cells.specs.declared.condition.Side.the-variants.{Column, Constant}
 use Rattle.rows.specs.declared.kind.Kind.{Kind}
-use Rattle.text.specs.Bytes.{Bytes, bytes, tab, sameBytes, split}
+use Rattle.text.specs.Bytes.{Bytes, tab}
 use Rattle.text.specs.Numbers.{cell, constant}
-use Rattle.text.specs.Lines.{JoinKind, kindOf, Line, tableLine, rowLine, joinLine, conditionLine, orderLine, Form, _>>=_, _>>_, field, oneOf, end, both, readAll, word, numberField, kindField, operatorField, cellFields, formT, formD, formJ, formC, formK, formP, firstOf, lineOf}
-use Rattle.text.specs.Parts.{until, partsAfter, fieldsFrom, split-until, field-here, fields-none, fields-all}
-use Rattle.text.specs.Ranges.{differ-one, differ-length, constant-fits}
+use Rattle.text.specs.Lines.{JoinKind, kindOf, TableLine, tableLine, rowLine, JoinLine, joinLine, conditionLine, OrderLine, orderLine, Line, tablesPart, joinsPart, orderPart, Form, _>>=_, _>>_, field, end, both, readAll, numberField, kindField, operatorField, cellFields}
+use Rattle.text.specs.Parts.{until, fieldsFrom, field-here, fields-none}
+use Rattle.text.specs.Ranges.{constant-fits}
 use Rattle.text.specs.Fields.{fieldOf, field-cons, pairField, bothOf, secondOf, storedKind}
 use Rattle.text.specs.declared.line.LineRead.{LineRead}
 use Rattle.text.specs.declared.line.LineRead.the-variants as R
@@ -31,40 +24,40 @@ use Rattle.text.specs.declared.line.LineRead.the-variants as R
 -- what the reading of a line says: of a D line, how many cells it has
 abbrev pub lineRead : Option Line → LineRead
 lineRead none = R.NoForm
-lineRead (some (tableLine n)) = R.Table n
-lineRead (some (rowLine zs)) = R.Row (length zs)
-lineRead (some (joinLine k l r)) = R.Join (kindOf k) l r
-lineRead (some (conditionLine c)) = R.Condition c
-lineRead (some (orderLine l r)) = R.Order l r
+lineRead (some (tablesPart (tableLine n))) = R.Table n
+lineRead (some (tablesPart (rowLine zs))) = R.Row (length zs)
+lineRead (some (joinsPart (joinLine k l r))) = R.Join (kindOf k) l r
+lineRead (some (joinsPart (conditionLine c))) = R.Condition c
+lineRead (some (orderPart (orderLine l r))) = R.Order l r
 
--- the line that a form gives
-abbrev pub given : Option (Line × List Bytes) → Option Line
-given none = none
-given (some r) = some (r .0)
+-- the line that a form of a part gives
+abbrev pub given : {A : Type 0} → (A → Line) → Option (A × List Bytes) → Option Line
+given part none = none
+given part (some r) = some (part (r .0))
 
-abbrev pub formRead : Option (Line × List Bytes) → LineRead
-formRead o = lineRead (given o)
+abbrev pub formRead : {A : Type 0} → (A → Line) → Option (A × List Bytes) → LineRead
+formRead part o = lineRead (given part o)
 
 -- ---- the forms behind the letters
 
-unfoldable pub tableForm : Form Line
+unfoldable pub tableForm : Form TableLine
 tableForm = do
   n ← numberField
   end (tableLine n)
 
-unfoldable pub rowForm : Form Line
+unfoldable pub rowForm : Form TableLine
 rowForm = do
   zs ← cellFields
   end (rowLine zs)
 
-unfoldable pub joinForm : Form Line
+unfoldable pub joinForm : Form JoinLine
 joinForm = do
   k ← kindField
   l ← numberField
   r ← numberField
   end (joinLine k l r)
 
-unfoldable pub columnForm : Form Line
+unfoldable pub columnForm : Form JoinLine
 columnForm = do
   t ← numberField
   c ← numberField
@@ -73,7 +66,7 @@ columnForm = do
   d ← numberField
   end (conditionLine (record { table = t; column = c; operator = o; side = Column u d }))
 
-unfoldable pub constantForm : Form Line
+unfoldable pub constantForm : Form JoinLine
 constantForm = do
   t ← numberField
   c ← numberField
@@ -81,7 +74,7 @@ constantForm = do
   z ← field constant
   end (conditionLine (record { table = t; column = c; operator = o; side = Constant z }))
 
-unfoldable pub orderForm : Form Line
+unfoldable pub orderForm : Form OrderLine
 orderForm = do
   l ← numberField
   r ← numberField
@@ -157,23 +150,23 @@ module _ {A : Type 0} (a : A) (l : Bytes) (at : ℕ) where
 -- ---- T, J, C, K and P lines
 
 module _ (fs : List Bytes) where
-  pub table-none : none ≡ numberField fs → R.NoForm ≡ formRead (tableForm fs)
+  pub table-none : none ≡ numberField fs → R.NoForm ≡ formRead tablesPart (tableForm fs)
   unfolding tableForm
-  table-none e = ap formRead (then-none numberField (λ n. end (tableLine n)) fs e)
+  table-none e = ap (formRead tablesPart) (then-none numberField (λ n. end (tableLine n)) fs e)
 
-  pub table-end : {n : ℕ} {gs : List Bytes} {o : Option (Line × List Bytes)} → some (n, gs) ≡ numberField fs
-      → o ≡ end (tableLine n) gs → formRead o ≡ formRead (tableForm fs)
+  pub table-end : {n : ℕ} {gs : List Bytes} {o : Option (TableLine × List Bytes)} → some (n, gs) ≡ numberField fs
+      → o ≡ end (tableLine n) gs → formRead tablesPart o ≡ formRead tablesPart (tableForm fs)
   unfolding tableForm
-  table-end e g = ap formRead (g ∙ then-some numberField (λ n. end (tableLine n)) fs e)
+  table-end e g = ap (formRead tablesPart) (g ∙ then-some numberField (λ n. end (tableLine n)) fs e)
 
-  pub order-none : none ≡ pairField fs → R.NoForm ≡ formRead (orderForm fs)
+  pub order-none : none ≡ pairField fs → R.NoForm ≡ formRead orderPart (orderForm fs)
   unfolding orderForm
-  order-none e = ap formRead (pair-none (λ a b. end (orderLine a b)) fs e)
+  order-none e = ap (formRead orderPart) (pair-none (λ a b. end (orderLine a b)) fs e)
 
-  pub order-end : {a b : ℕ} {gs : List Bytes} {o : Option (Line × List Bytes)} → some ((a, b), gs) ≡ pairField fs
-      → o ≡ end (orderLine a b) gs → formRead o ≡ formRead (orderForm fs)
+  pub order-end : {a b : ℕ} {gs : List Bytes} {o : Option (OrderLine × List Bytes)} → some ((a, b), gs) ≡ pairField fs
+      → o ≡ end (orderLine a b) gs → formRead orderPart o ≡ formRead orderPart (orderForm fs)
   unfolding orderForm
-  order-end e g = ap formRead (g ∙ pair-some (λ a b. end (orderLine a b)) fs e)
+  order-end e g = ap (formRead orderPart) (g ∙ pair-some (λ a b. end (orderLine a b)) fs e)
 
 -- the kind that is kept is that of the line
 kept-none : (o : Option (JoinKind × List Bytes)) → none ≡ storedKind o → none ≡ o
@@ -189,68 +182,68 @@ kept-some (some r) {k} {gs} e =
     let p : _≡_ {A = Kind × List Bytes} (k, gs) (kindOf (r .0), r .1) = cc in
     (r .0, ap (λ (x : Kind × List Bytes). x .0) p, ap (λ (x : List Bytes). some (r .0, x)) (ap (λ (x : Kind × List Bytes). x .1) p))
 
-abbrev sides : JoinKind → Form Line
+abbrev sides : JoinKind → Form JoinLine
 sides j = numberField >>= λ a. numberField >>= λ b. end (joinLine j a b)
 
 module _ (fs : List Bytes) where
-  pub join-none : none ≡ storedKind (kindField fs) → R.NoForm ≡ formRead (joinForm fs)
+  pub join-none : none ≡ storedKind (kindField fs) → R.NoForm ≡ formRead joinsPart (joinForm fs)
   unfolding joinForm
-  join-none e = ap formRead (then-none kindField sides fs (kept-none (kindField fs) e))
+  join-none e = ap (formRead joinsPart) (then-none kindField sides fs (kept-none (kindField fs) e))
 
   pub join-no-sides : {k : Kind} {gs : List Bytes} → some (k, gs) ≡ storedKind (kindField fs) → none ≡ pairField gs
-      → R.NoForm ≡ formRead (joinForm fs)
+      → R.NoForm ≡ formRead joinsPart (joinForm fs)
   unfolding joinForm
   join-no-sides {k} {gs} e g =
       let (j, h, i) = kept-some (kindField fs) e in
-      ap formRead (pair-none (λ a b. end (joinLine j a b)) gs g ∙ then-some kindField sides fs i)
+      ap (formRead joinsPart) (pair-none (λ a b. end (joinLine j a b)) gs g ∙ then-some kindField sides fs i)
 
   pub join-more : {k : Kind} {a b : ℕ} {gs hs : List Bytes} → some (k, gs) ≡ storedKind (kindField fs)
       → some ((a, b), hs) ≡ pairField gs → ((j : JoinKind) → none ≡ end (joinLine j a b) hs)
-      → R.NoForm ≡ formRead (joinForm fs)
+      → R.NoForm ≡ formRead joinsPart (joinForm fs)
   unfolding joinForm
   join-more {k} {a} {b} {gs} {hs} e g x =
       let (j, h, i) = kept-some (kindField fs) e in
-      ap formRead (x j ∙ pair-some (λ a b. end (joinLine j a b)) gs g ∙ then-some kindField sides fs i)
+      ap (formRead joinsPart) (x j ∙ pair-some (λ a b. end (joinLine j a b)) gs g ∙ then-some kindField sides fs i)
 
   pub join-end : {k : Kind} {a b : ℕ} {gs hs : List Bytes} → some (k, gs) ≡ storedKind (kindField fs)
       → some ((a, b), hs) ≡ pairField gs → ((j : JoinKind) → some (joinLine j a b, []) ≡ end (joinLine j a b) hs)
-      → R.Join k a b ≡ formRead (joinForm fs)
+      → R.Join k a b ≡ formRead joinsPart (joinForm fs)
   unfolding joinForm
   join-end {k} {a} {b} {gs} {hs} e g x =
       let (j, h, i) = kept-some (kindField fs) e in
       ap (λ (y : Kind). R.Join y a b) h
-      ∙ ap formRead (x j ∙ pair-some (λ a b. end (joinLine j a b)) gs g ∙ then-some kindField sides fs i)
+      ∙ ap (formRead joinsPart) (x j ∙ pair-some (λ a b. end (joinLine j a b)) gs g ∙ then-some kindField sides fs i)
 
 -- what follows the first column and the operator of a condition
-abbrev columnSide : ℕ → ℕ → ℕ → Form Line
+abbrev columnSide : ℕ → ℕ → ℕ → Form JoinLine
 columnSide t c o =
     numberField >>= λ u. numberField >>= λ d.
     end (conditionLine (record { table = t; column = c; operator = o; side = Column u d }))
 
-abbrev constantSide : ℕ → ℕ → ℕ → Form Line
+abbrev constantSide : ℕ → ℕ → ℕ → Form JoinLine
 constantSide t c o =
     field constant >>= λ z. end (conditionLine (record { table = t; column = c; operator = o; side = Constant z }))
 
 module _ (fs : List Bytes) where
-  pub column-none : none ≡ pairField fs → R.NoForm ≡ formRead (columnForm fs)
+  pub column-none : none ≡ pairField fs → R.NoForm ≡ formRead joinsPart (columnForm fs)
   unfolding columnForm
-  column-none e = ap formRead (pair-none (λ t c. operatorField >>= λ o. columnSide t c o) fs e)
+  column-none e = ap (formRead joinsPart) (pair-none (λ t c. operatorField >>= λ o. columnSide t c o) fs e)
 
-  pub constant-none : none ≡ pairField fs → R.NoForm ≡ formRead (constantForm fs)
+  pub constant-none : none ≡ pairField fs → R.NoForm ≡ formRead joinsPart (constantForm fs)
   unfolding constantForm
-  constant-none e = ap formRead (pair-none (λ t c. operatorField >>= λ o. constantSide t c o) fs e)
+  constant-none e = ap (formRead joinsPart) (pair-none (λ t c. operatorField >>= λ o. constantSide t c o) fs e)
 
 module _ (fs : List Bytes) {t c : ℕ} {gs : List Bytes} (e : some ((t, c), gs) ≡ pairField fs) where
-  pub column-no-operator : none ≡ operatorField gs → R.NoForm ≡ formRead (columnForm fs)
+  pub column-no-operator : none ≡ operatorField gs → R.NoForm ≡ formRead joinsPart (columnForm fs)
   unfolding columnForm
   column-no-operator g =
-      ap formRead (then-none operatorField (λ o. columnSide t c o) gs g
+      ap (formRead joinsPart) (then-none operatorField (λ o. columnSide t c o) gs g
       ∙ pair-some (λ t c. operatorField >>= λ o. columnSide t c o) fs e)
 
-  pub constant-no-operator : none ≡ operatorField gs → R.NoForm ≡ formRead (constantForm fs)
+  pub constant-no-operator : none ≡ operatorField gs → R.NoForm ≡ formRead joinsPart (constantForm fs)
   unfolding constantForm
   constant-no-operator g =
-      ap formRead (then-none operatorField (λ o. constantSide t c o) gs g
+      ap (formRead joinsPart) (then-none operatorField (λ o. constantSide t c o) gs g
       ∙ pair-some (λ t c. operatorField >>= λ o. constantSide t c o) fs e)
 
 module _ (fs : List Bytes) {t c o : ℕ} {gs hs : List Bytes} (e : some ((t, c), gs) ≡ pairField fs)
@@ -265,28 +258,28 @@ module _ (fs : List Bytes) {t c o : ℕ} {gs hs : List Bytes} (e : some ((t, c),
   constant-side =
       then-some operatorField (λ o. constantSide t c o) gs g ∙ pair-some (λ t c. operatorField >>= λ o. constantSide t c o) fs e
 
-  pub column-no-side : none ≡ pairField hs → R.NoForm ≡ formRead (columnForm fs)
+  pub column-no-side : none ≡ pairField hs → R.NoForm ≡ formRead joinsPart (columnForm fs)
   column-no-side h =
-      ap formRead (pair-none
+      ap (formRead joinsPart) (pair-none
       (λ u d. end (conditionLine (record { table = t; column = c; operator = o; side = Column u d }))) hs h ∙ column-side)
 
-  pub constant-no-side : none ≡ field constant hs → R.NoForm ≡ formRead (constantForm fs)
+  pub constant-no-side : none ≡ field constant hs → R.NoForm ≡ formRead joinsPart (constantForm fs)
   constant-no-side h =
-      ap formRead (then-none (field constant)
+      ap (formRead joinsPart) (then-none (field constant)
       (λ z. end (conditionLine (record { table = t; column = c; operator = o; side = Constant z }))) hs h ∙ constant-side)
 
-  pub column-end : {u d : ℕ} {is : List Bytes} {r : Option (Line × List Bytes)} → some ((u, d), is) ≡ pairField hs
+  pub column-end : {u d : ℕ} {is : List Bytes} {r : Option (JoinLine × List Bytes)} → some ((u, d), is) ≡ pairField hs
       → r ≡ end (conditionLine (record { table = t; column = c; operator = o; side = Column u d })) is
-      → formRead r ≡ formRead (columnForm fs)
+      → formRead joinsPart r ≡ formRead joinsPart (columnForm fs)
   column-end h x =
-      ap formRead (x ∙ pair-some
+      ap (formRead joinsPart) (x ∙ pair-some
       (λ u d. end (conditionLine (record { table = t; column = c; operator = o; side = Column u d }))) hs h ∙ column-side)
 
-  pub constant-end : {z : ℤ} {is : List Bytes} {r : Option (Line × List Bytes)} → some (z, is) ≡ field constant hs
+  pub constant-end : {z : ℤ} {is : List Bytes} {r : Option (JoinLine × List Bytes)} → some (z, is) ≡ field constant hs
       → r ≡ end (conditionLine (record { table = t; column = c; operator = o; side = Constant z })) is
-      → formRead r ≡ formRead (constantForm fs)
+      → formRead joinsPart r ≡ formRead joinsPart (constantForm fs)
   constant-end h x =
-      ap formRead (x ∙ then-some (field constant)
+      ap (formRead joinsPart) (x ∙ then-some (field constant)
       (λ z. end (conditionLine (record { table = t; column = c; operator = o; side = Constant z }))) hs h ∙ constant-side)
 
 -- a constant fits 32 bits
@@ -309,7 +302,7 @@ abbrev pub rowFrom : ℕ → Option (List ℤ) → LineRead
 rowFrom n none = R.NoForm
 rowFrom n (some zs) = R.Row (n + length zs)
 
-pub row-none : (l : Bytes) (at : ℕ) → length l < at → R.NoForm ≡ formRead (rowForm (fieldsFrom l at))
+pub row-none : (l : Bytes) (at : ℕ) → length l < at → R.NoForm ≡ formRead tablesPart (rowForm (fieldsFrom l at))
 unfolding rowForm cellFields
 row-none l at h = rw (fields-none l at h)
 
@@ -326,19 +319,19 @@ cells-read x fs = go (readAll cell (x ∷ fs))
     go none = refl
     go (some zs) = refl
 
-row-all : (x : Bytes) (fs : List Bytes) → formRead (rowForm (x ∷ fs)) ≡ rowFrom 0 (readAll cell (x ∷ fs))
+row-all : (x : Bytes) (fs : List Bytes) → formRead tablesPart (rowForm (x ∷ fs)) ≡ rowFrom 0 (readAll cell (x ∷ fs))
 unfolding rowForm handed end cellsRead
 row-all x fs =
-    ap formRead (then-handed cellFields (λ zs. end (rowLine zs)) (x ∷ fs)
+    ap (formRead tablesPart) (then-handed cellFields (λ zs. end (rowLine zs)) (x ∷ fs)
     ∙ ap (handed (λ zs. end (rowLine zs))) (cells-read x fs))
     ∙ go (readAll cell (x ∷ fs))
   where
-    go : (o : Option (List ℤ)) → formRead (handed (λ zs. end (rowLine zs)) (cellsRead o)) ≡ rowFrom 0 o
+    go : (o : Option (List ℤ)) → formRead tablesPart (handed (λ zs. end (rowLine zs)) (cellsRead o)) ≡ rowFrom 0 o
     go none = refl
     go (some zs) = ap R.Row (sym (zero-add (length zs)))
 
 pub row-start : (l : Bytes) (at : ℕ) → at ≤ length l
-    → formRead (rowForm (fieldsFrom l at)) ≡ rowFrom 0 (readAll cell (fieldsFrom l at))
+    → formRead tablesPart (rowForm (fieldsFrom l at)) ≡ rowFrom 0 (readAll cell (fieldsFrom l at))
 row-start l at h =
     let e = field-here l at (at + until tab (drop at l)) refl h in
     rw (e) (row-all (take (at + until tab (drop at l) - at) (drop at l)) (fieldsFrom l (at + until tab (drop at l) + 1)))

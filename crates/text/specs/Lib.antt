@@ -1,6 +1,7 @@
 pub mod Bytes
 pub mod Numbers
 pub mod Lines
+pub mod LineParts
 pub mod Reading
 pub mod Print
 pub mod ReadingLaws

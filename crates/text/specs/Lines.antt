@@ -1,6 +1,5 @@
 -- The form of each kind of line: document 01, "Report text". A form reads the fields of a line from the left, each once.
 -- Assumes nothing.
-use mathlib.Core.Bool.{Bool}
 use mathlib.Core.List.{List, [], _∷_}
 use mathlib.Core.Option.{Option, none, some}
 use Prim.Native.Nat.{ℕ}
@@ -22,14 +21,25 @@ unfoldable pub kindOf : JoinKind → Kind
 kindOf innerJoin = Inner
 kindOf leftOuterJoin = Outer
 
--- a line and what it says: T with its count of columns, D with its cells, J with its kind and sides, C or K with its
--- condition, P with its two nodes
+-- a line and what it says, by the part of the text that it belongs to: "All T and D lines come first, then each J with its C and K
+-- lines, then P lines". T has its count of columns, D its cells
+pub data TableLine : Type 0 where
+  tableLine : ℕ → TableLine
+  rowLine : List ℤ → TableLine
+
+-- J has its kind and sides, C or K its condition
+pub data JoinLine : Type 0 where
+  joinLine : JoinKind → ℕ → ℕ → JoinLine
+  conditionLine : Condition → JoinLine
+
+-- P has its two nodes
+pub data OrderLine : Type 0 where
+  orderLine : ℕ → ℕ → OrderLine
+
 pub data Line : Type 0 where
-  tableLine : ℕ → Line
-  rowLine : List ℤ → Line
-  joinLine : JoinKind → ℕ → ℕ → Line
-  conditionLine : Condition → Line
-  orderLine : ℕ → ℕ → Line
+  tablesPart : TableLine → Line
+  joinsPart : JoinLine → Line
+  orderPart : OrderLine → Line
 
 -- ---- forms
 
@@ -96,21 +106,21 @@ cellFields (x ∷ fs) = elim (readAll cell (x ∷ fs)) [ none ↦ none | some zs
 -- ---- lines
 
 -- "`T` columns: opens a table"
-unfoldable pub formT : Form Line
+unfoldable pub formT : Form TableLine
 formT = do
   word "T"
   n ← numberField
   end (tableLine n)
 
 -- "`D` cells, at least one: one row of the latest table"
-unfoldable pub formD : Form Line
+unfoldable pub formD : Form TableLine
 formD = do
   word "D"
   zs ← cellFields
   end (rowLine zs)
 
 -- "`J` kind left right"
-unfoldable pub formJ : Form Line
+unfoldable pub formJ : Form JoinLine
 formJ = do
   word "J"
   k ← kindField
@@ -119,7 +129,7 @@ formJ = do
   end (joinLine k l r)
 
 -- "`C` table column operator table column: a condition of the latest join"
-unfoldable pub formC : Form Line
+unfoldable pub formC : Form JoinLine
 formC = do
   word "C"
   t ← numberField
@@ -130,7 +140,7 @@ formC = do
   end (conditionLine (record { table = t; column = c; operator = o; side = Column u d }))
 
 -- "`K` table column operator number: the same with a constant in a cell's range"
-unfoldable pub formK : Form Line
+unfoldable pub formK : Form JoinLine
 formK = do
   word "K"
   t ← numberField
@@ -140,7 +150,7 @@ formK = do
   end (conditionLine (record { table = t; column = c; operator = o; side = Constant z }))
 
 -- "`P` left right: one pair of the joining order"
-unfoldable pub formP : Form Line
+unfoldable pub formP : Form OrderLine
 formP = do
   word "P"
   l ← numberField
@@ -148,13 +158,24 @@ formP = do
   end (orderLine l r)
 
 -- the first of these forms that the fields have
-unfoldable pub firstOf : List (Form Line) → List Bytes → Option Line
+unfoldable pub firstOf : {A : Type 0} → List (Form A) → List Bytes → Option A
 firstOf [] fs = none
 firstOf (f ∷ forms) fs = elim (f fs) [ none ↦ firstOf forms fs | some r ↦ some (r .0) ]
 
+-- a line of a part, or else a line of another one
+unfoldable pub inPart : {A : Type 0} → (A → Line) → Option A → Option Line → Option Line
+inPart part none other = other
+inPart part (some x) other = some (part x)
+
+-- the line that fields say
+unfoldable pub lineBy : List Bytes → Option Line
+lineBy fs =
+    inPart tablesPart (firstOf (formT ∷ formD ∷ []) fs)
+    (inPart joinsPart (firstOf (formJ ∷ formC ∷ formK ∷ []) fs) (inPart orderPart (firstOf (formP ∷ []) fs) none))
+
 -- "fields parted by one tab"
 unfoldable pub lineOf : Bytes → Option Line
-lineOf bs = firstOf (formT ∷ formD ∷ formJ ∷ formC ∷ formK ∷ formP ∷ []) (split tab bs)
+lineOf bs = lineBy (split tab bs)
 
 -- the lines of a text, if every one is closed and has a form
 unfoldable pub linesOf : Bytes → Option (List Line)

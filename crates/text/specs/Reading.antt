@@ -1,96 +1,115 @@
 -- The report that a text says: document 01, "Report text". Assumes nothing.
-use mathlib.Core.Bool.{Bool, true, false, _&&_}
+use mathlib.Core.Bool.{Bool, true, false}
 use mathlib.Core.List.{List, [], _∷_}
 use mathlib.Core.Option.{Option, none, some}
 use Prim.Native.Nat.{ℕ, suc}
 use lib.Dec.{eqb, leb}
 use lib.IntN.{ℤ}
 use lib.ListN.{length}
+use Rattle.cells.specs.Choice.{if_then_else_}
+use Rattle.cells.specs.Limits.{mostBytes}
 use Rattle.cells.specs.declared.condition.Condition.{Condition}
 use Rattle.plan.specs.Report.{Table, Join, Pair, Report}
 use Rattle.text.specs.Bytes.{Bytes}
-use Rattle.text.specs.Lines.{Line, tableLine, rowLine, joinLine, conditionLine, orderLine, kindOf, linesOf}
+use Rattle.text.specs.Lines.{TableLine, tableLine, rowLine, JoinLine, joinLine, conditionLine, OrderLine, orderLine, Line, tablesPart, joinsPart, orderPart, kindOf, linesOf}
+use Rattle.text.specs.LineParts.{tableLines, joinLines, orderLines}
 
 -- ---- places: "All T and D lines come first, then each J with its C and K lines, then P lines"
 
--- the part of a text that a line belongs to: 1 tables, 2 joins, 3 order
-unfoldable pub partOf : Line → ℕ
-partOf (tableLine n) = 1
-partOf (rowLine zs) = 1
-partOf (joinLine k l r) = 2
-partOf (conditionLine c) = 2
-partOf (orderLine l r) = 3
+-- where a line stands: the part of the text, 1 tables, 2 joins, 3 order; 0 is the place before the first line
+pub record Place : Type 0 where
+  pub part : ℕ
 
--- whether a line may follow a line of a part (0 at the text's start): D needs a T before it, C and K need a J
-unfoldable pub mayFollow : ℕ → Line → Bool
-mayFollow p (tableLine n) = leb p 1
-mayFollow p (rowLine zs) = eqb p 1
-mayFollow p (joinLine k l r) = leb p 2
-mayFollow p (conditionLine c) = eqb p 2
-mayFollow p (orderLine l r) = true
+unfoldable pub beforeAll : Place
+beforeAll = record { part = 0 }
+
+-- the place of a line that may stand behind lines of its part and of the parts before it
+unfoldable pub opens : Place → ℕ → Option Place
+opens p n = if leb (p .part) n then some (record { part = n }) else none
+
+-- the place of a line that must stand behind a line of its part
+unfoldable pub follows : Place → ℕ → Option Place
+follows p n = if eqb (p .part) n then some (record { part = n }) else none
+
+-- the place of a line behind one at this place, if it may stand there: D needs a T before it, C and K need a J
+unfoldable pub next : Place → Line → Option Place
+next p (tablesPart (tableLine n)) = opens p 1
+next p (tablesPart (rowLine zs)) = follows p 1
+next p (joinsPart (joinLine k a b)) = opens p 2
+next p (joinsPart (conditionLine c)) = follows p 2
+next p (orderPart (orderLine a b)) = opens p 3
 
 -- whether every line stands in its place
-unfoldable pub placed : ℕ → List Line → Bool
+unfoldable pub placed : Place → List Line → Bool
 placed p [] = true
-placed p (x ∷ ls) = mayFollow p x && placed (partOf x) ls
+placed p (x ∷ ls) = elim (next p x) [ none ↦ false | some q ↦ placed q ls ]
 
--- ---- what the lines say
+-- ---- what the lines of a part say
 
--- the D lines before the first T line, and the tables: a T line opens a table, the D lines behind it are its rows
-unfoldable pub tablesOf : List Line → List (List ℤ) × List Table
-tablesOf [] = ([], [])
-tablesOf (tableLine n ∷ ls) = let r = tablesOf ls in ([], record { columns = n; rows = r .0 } ∷ r .1)
-tablesOf (rowLine zs ∷ ls) = let r = tablesOf ls in (zs ∷ r .0, r .1)
-tablesOf (joinLine k a b ∷ ls) = tablesOf ls
-tablesOf (conditionLine c ∷ ls) = tablesOf ls
-tablesOf (orderLine a b ∷ ls) = tablesOf ls
+-- the D lines before the first T line
+unfoldable pub firstRows : List TableLine → List (List ℤ)
+firstRows [] = []
+firstRows (tableLine n ∷ ls) = []
+firstRows (rowLine zs ∷ ls) = zs ∷ firstRows ls
 
--- the numbers of the conditions before the first J line, and the joins; "C and K lines share one count from 0", and i of them
--- stand before these lines
-unfoldable pub joinsOf : ℕ → List Line → List ℕ × List Join
-joinsOf i [] = ([], [])
+-- the tables: a T line opens a table, the D lines behind it are its rows
+unfoldable pub tablesOf : List TableLine → List Table
+tablesOf [] = []
+tablesOf (tableLine n ∷ ls) = record { columns = n; rows = firstRows ls } ∷ tablesOf ls
+tablesOf (rowLine zs ∷ ls) = tablesOf ls
+
+-- the numbers of the C and K lines before the first J line; "C and K lines share one count from 0", and i of them stand before these
+unfoldable pub firstConditions : ℕ → List JoinLine → List ℕ
+firstConditions i [] = []
+firstConditions i (joinLine k a b ∷ ls) = []
+firstConditions i (conditionLine c ∷ ls) = i ∷ firstConditions (suc i) ls
+
+-- the joins: a J line is a join, the C and K lines behind it are its conditions
+unfoldable pub joinsOf : ℕ → List JoinLine → List Join
+joinsOf i [] = []
 joinsOf i (joinLine k a b ∷ ls) =
-    let r = joinsOf i ls in
-    ([], record { kind = kindOf k; left = a; right = b; conditions = r .0 } ∷ r .1)
-joinsOf i (conditionLine c ∷ ls) = let r = joinsOf (suc i) ls in (i ∷ r .0, r .1)
-joinsOf i (tableLine n ∷ ls) = joinsOf i ls
-joinsOf i (rowLine zs ∷ ls) = joinsOf i ls
-joinsOf i (orderLine a b ∷ ls) = joinsOf i ls
+    record { kind = kindOf k; left = a; right = b; conditions = firstConditions i ls } ∷ joinsOf i ls
+joinsOf i (conditionLine c ∷ ls) = joinsOf (suc i) ls
 
 -- the conditions, by their number
-unfoldable pub conditionsOf : List Line → List Condition
+unfoldable pub conditionsOf : List JoinLine → List Condition
 conditionsOf [] = []
-conditionsOf (conditionLine c ∷ ls) = c ∷ conditionsOf ls
-conditionsOf (tableLine n ∷ ls) = conditionsOf ls
-conditionsOf (rowLine zs ∷ ls) = conditionsOf ls
 conditionsOf (joinLine k a b ∷ ls) = conditionsOf ls
-conditionsOf (orderLine a b ∷ ls) = conditionsOf ls
+conditionsOf (conditionLine c ∷ ls) = c ∷ conditionsOf ls
 
 -- the pairs of the P lines
-unfoldable pub pairsOf : List Line → List Pair
+unfoldable pub pairsOf : List OrderLine → List Pair
 pairsOf [] = []
 pairsOf (orderLine a b ∷ ls) = (a, b) ∷ pairsOf ls
-pairsOf (tableLine n ∷ ls) = pairsOf ls
-pairsOf (rowLine zs ∷ ls) = pairsOf ls
-pairsOf (joinLine k a b ∷ ls) = pairsOf ls
-pairsOf (conditionLine c ∷ ls) = pairsOf ls
 
--- what the lines of a report say
+-- ---- what the lines of a text say
+
+-- D lines before any T line: there is none where every line stands in its place
+abbrev pub earlyRows : List Line → List (List ℤ)
+earlyRows ls = firstRows (tableLines ls)
+
+abbrev pub tablesIn : List Line → List Table
+tablesIn ls = tablesOf (tableLines ls)
+
+abbrev pub joinsIn : List Line → List Join
+joinsIn ls = joinsOf 0 (joinLines ls)
+
+abbrev pub conditionsIn : List Line → List Condition
+conditionsIn ls = conditionsOf (joinLines ls)
+
+abbrev pub pairsIn : List Line → List Pair
+pairsIn ls = pairsOf (orderLines ls)
+
 unfoldable pub reportOf : List Line → Report
-reportOf ls = record {
-  tables = (tablesOf ls) .1;
-  joins = (joinsOf 0 ls) .1;
-  conditions = conditionsOf ls;
-  pairs = pairsOf ls;
-}
+reportOf ls = record { tables = tablesIn ls; joins = joinsIn ls; conditions = conditionsIn ls; pairs = pairsIn ls }
 
 -- 2: "Has the text at most 16,384 bytes, and every line a form and place above?" The lines, if so
 unfoldable pub ifPlaced : List Line → Option (List Line)
-ifPlaced ls = elim (placed 0 ls) [ true ↦ some ls | false ↦ none ]
+ifPlaced ls = elim (placed beforeAll ls) [ true ↦ some ls | false ↦ none ]
 
 unfoldable pub textLines : Bytes → Option (List Line)
 textLines bs =
-    elim (leb (length bs) 16384) [
+    elim (leb (length bs) mostBytes) [
       | true ↦ elim (linesOf bs) [ none ↦ none | some ls ↦ ifPlaced ls ]
       | false ↦ none
     ]

@@ -1,25 +1,25 @@
 -- What the reading of a text gives whatever the text: joins are inner or outer, and their conditions are conditions of the report;
--- and what the lines without the order say. Assumes nothing.
-use mathlib.Core.Path.{_≡_, refl, sym, ap, subst}
+-- and what the lines of an accepted text are. Assumes nothing.
+use mathlib.Core.Path.{_≡_, refl, sym, ap, subst, _∙_}
 use mathlib.Core.Option.{Option, none, some}
-use mathlib.Core.Bool.{Bool, true, false, not}
+use mathlib.Core.Bool.{Bool, true, false}
 use mathlib.Core.List.{List, [], _∷_}
 use Prim.Native.Nat.{ℕ, suc, _+_, _≤_, _<_}
 use native.Mathlib.Omega.{arith}
-use native.Mathlib.Nat.{add-suc, suc-add}
-use lib.IntN.{ℤ}
+use lib.Dec.{eqb, leb}
 use lib.ListN.{length}
+use borrow.Author.Tests.{ne-eqb}
+use Rattle.cells.specs.BoolLaws.{clash}
 use Rattle.cells.specs.Choice.{if_then_else_}
-use Rattle.cells.specs.declared.condition.Condition.{Condition}
-use Rattle.rows.specs.Lists.{range, keep}
+use Rattle.cells.specs.Limits.{mostBytes}
 use Rattle.rows.specs.ListLaws.{_isIn_, here, there, range-intro}
 use Rattle.rows.specs.Shapes.{BlanksRight}
-use Rattle.plan.specs.Report.{Table, Join, Query, Report, queryOf, conditionNumbers}
-use Rattle.plan.specs.SetLaws.{Numbered}
+use Rattle.plan.specs.Report.{Join, Report, queryOf, conditionNumbers}
 use Rattle.plan.specs.QueryLaws.{WellRead}
 use Rattle.text.specs.Bytes.{Bytes}
-use Rattle.text.specs.Lines.{JoinKind, innerJoin, leftOuterJoin, kindOf, Line, tableLine, rowLine, joinLine, conditionLine, orderLine}
-use Rattle.text.specs.Reading.{tablesOf, joinsOf, conditionsOf, pairsOf, reportOf, textLines, readReport}
+use Rattle.text.specs.Lines.{JoinKind, innerJoin, leftOuterJoin, kindOf, tableLine, rowLine, JoinLine, joinLine, conditionLine, OrderLine, orderLine, Line, tablesPart, joinsPart, orderPart, linesOf}
+use Rattle.text.specs.LineParts.{also, picked, ofTables, joinLines}
+use Rattle.text.specs.Reading.{Place, beforeAll, opens, follows, next, placed, firstRows, firstConditions, joinsOf, conditionsOf, earlyRows, conditionsIn, reportOf, ifPlaced, textLines, readReport}
 
 -- a J line is no product
 line-plain : (k : JoinKind) → BlanksRight (kindOf k)
@@ -27,45 +27,101 @@ unfolding kindOf
 line-plain innerJoin = tt
 line-plain leftOuterJoin = tt
 
-joins-plain : (i : ℕ) (ls : List Line) (j : Join) → j isIn (joinsOf i ls) .1 → BlanksRight (j .kind)
+joins-plain : (i : ℕ) (ls : List JoinLine) (j : Join) → j isIn joinsOf i ls → BlanksRight (j .kind)
 unfolding joinsOf
 joins-plain i (joinLine k a b ∷ ls) j (here e) = rw e (line-plain k)
 joins-plain i (joinLine k a b ∷ ls) j (there m) = joins-plain i ls j m
 joins-plain i (conditionLine c ∷ ls) j m = joins-plain (suc i) ls j m
-joins-plain i (tableLine n ∷ ls) j m = joins-plain i ls j m
-joins-plain i (rowLine zs ∷ ls) j m = joins-plain i ls j m
-joins-plain i (orderLine a b ∷ ls) j m = joins-plain i ls j m
 
 -- condition numbers are counted from i on
-abbrev Counted : ℕ → List Line → ℕ → Type 0
+abbrev Counted : ℕ → List JoinLine → ℕ → Type 0
 Counted i ls c = (i ≤ c) × (c < i + length (conditionsOf ls))
 
-first-counted : (i : ℕ) (ls : List Line) (c : ℕ) → c isIn (joinsOf i ls) .0 → Counted i ls c
-unfolding joinsOf conditionsOf
+first-counted : (i : ℕ) (ls : List JoinLine) (c : ℕ) → c isIn firstConditions i ls → Counted i ls c
+unfolding firstConditions conditionsOf
 first-counted i (conditionLine d ∷ ls) c (here e) = omega arith
 first-counted i (conditionLine d ∷ ls) c (there m) = let r = first-counted (suc i) ls c m in omega arith
-first-counted i (tableLine n ∷ ls) c m = first-counted i ls c m
-first-counted i (rowLine zs ∷ ls) c m = first-counted i ls c m
-first-counted i (orderLine a b ∷ ls) c m = first-counted i ls c m
 
-joins-counted : (i : ℕ) (ls : List Line) (j : Join) → j isIn (joinsOf i ls) .1 → (c : ℕ) → c isIn j .conditions → Counted i ls c
+joins-counted : (i : ℕ) (ls : List JoinLine) (j : Join) → j isIn joinsOf i ls → (c : ℕ) → c isIn j .conditions → Counted i ls c
 unfolding joinsOf conditionsOf
 joins-counted i (joinLine k a b ∷ ls) j (here e) c m = first-counted i ls c (rw (ap (λ (x : Join). x .conditions) e) at m)
 joins-counted i (joinLine k a b ∷ ls) j (there n) c m = joins-counted i ls j n c m
 joins-counted i (conditionLine d ∷ ls) j n c m = let r = joins-counted (suc i) ls j n c m in omega arith
-joins-counted i (tableLine x ∷ ls) j n c m = joins-counted i ls j n c m
-joins-counted i (rowLine zs ∷ ls) j n c m = joins-counted i ls j n c m
-joins-counted i (orderLine a b ∷ ls) j n c m = joins-counted i ls j n c m
 
 pub report-well-read : (ls : List Line) → WellRead (queryOf (reportOf ls))
 unfolding queryOf reportOf conditionNumbers
 report-well-read ls j m = (
-  (λ c n. let r = joins-counted 0 ls j m c n in range-intro 0 (length (conditionsOf ls)) c (r .0) (r .1)),
-  joins-plain 0 ls j m,
+  (λ c n. let r = joins-counted 0 (joinLines ls) j m c n in range-intro 0 (length (conditionsIn ls)) c (r .0) (r .1)),
+  joins-plain 0 (joinLines ls) j m,
 )
 
--- the report of a text that question 2 does not turn down is what its lines say
+-- ---- a text that question 2 does not turn down
+
+-- its report is what its lines say
 pub read-report : (bs : Bytes) (ls : List Line) → textLines bs ≡ some ls → readReport bs ≡ some (reportOf ls)
 unfolding readReport
 read-report bs ls e = subst
     (λ (x : Option (List Line)). _≡_ {A = Option Report} (elim x [ none ↦ none | some l ↦ some (reportOf l) ]) (some (reportOf ls))) (sym e) refl
+
+-- its lines are those of its bytes, and stand in their places
+pub text-lines : (bs : Bytes) (ls : List Line) → textLines bs ≡ some ls → (linesOf bs ≡ some ls) × (placed beforeAll ls ≡ true)
+unfolding textLines ifPlaced
+text-lines bs ls e = by-length (leb (length bs) mostBytes) e
+  where
+    by-place : (xs : List Line) (t : Bool) → placed beforeAll xs ≡ t → linesOf bs ≡ some xs
+        → _≡_ {A = Option (List Line)} (elim t [ true ↦ some xs | false ↦ none ]) (some ls)
+        → (linesOf bs ≡ some ls) × (placed beforeAll ls ≡ true)
+    by-place xs true p q e = let z : xs ≡ ls = cc in (q ∙ ap some z, subst (λ (l : List Line). placed beforeAll l ≡ true) z p)
+    by-place xs false p q e = clash cc
+
+    by-lines : (o : Option (List Line)) → linesOf bs ≡ o
+        → _≡_ {A = Option (List Line)} (elim o [ none ↦ none | some xs ↦ ifPlaced xs ]) (some ls)
+        → (linesOf bs ≡ some ls) × (placed beforeAll ls ≡ true)
+    by-lines none q e = clash cc
+    by-lines (some xs) q e = by-place xs (placed beforeAll xs) refl q e
+
+    by-length : (t : Bool)
+        → _≡_ {A = Option (List Line)} (elim t [ true ↦ elim (linesOf bs) [ none ↦ none | some xs ↦ ifPlaced xs ] | false ↦ none ]) (some ls)
+        → (linesOf bs ≡ some ls) × (placed beforeAll ls ≡ true)
+    by-length true e = by-lines (linesOf bs) refl e
+    by-length false e = clash cc
+
+-- a line of another part than the tables' leaves that part
+in-part : (t : Bool) (n : ℕ) (q : Place) → _≡_ {A = Option Place} (if t then some (record { part = n }) else none) (some q) → q .part ≡ n
+in-part true n q e = let z : _≡_ {A = Place} (record { part = n }) q = cc in ap (λ (r : Place). r .part) (sym z)
+in-part false n q e = clash cc
+
+joins-behind : (p q : Place) (x : JoinLine) → next p (joinsPart x) ≡ some q → q .part ≡ 1 → ⊥
+unfolding next opens follows
+joins-behind p q (joinLine k a b) e h = omega (arith, in-part (leb (p .part) 2) 2 q e)
+joins-behind p q (conditionLine c) e h = omega (arith, in-part (eqb (p .part) 2) 2 q e)
+
+order-behind : (p q : Place) (x : OrderLine) → next p (orderPart x) ≡ some q → q .part ≡ 1 → ⊥
+unfolding next opens
+order-behind p q (orderLine a b) e h = omega (arith, in-part (leb (p .part) 3) 3 q e)
+
+rest-placed : (p : Place) (x : Line) (ls : List Line) → placed p (x ∷ ls) ≡ true → (q : Place) × (next p x ≡ some q) × (placed q ls ≡ true)
+unfolding placed
+rest-placed p x ls h = go (next p x) refl h
+  where
+    go : (o : Option Place) → next p x ≡ o → _≡_ {A = Bool} (elim o [ none ↦ false | some q ↦ placed q ls ]) true
+        → (q : Place) × (next p x ≡ some q) × (placed q ls ≡ true)
+    go none e h = clash cc
+    go (some q) e h = (q, e, h)
+
+early-from : (p : Place) (ls : List Line) → (p .part ≡ 1 → ⊥) → placed p ls ≡ true → earlyRows ls ≡ []
+unfolding next follows picked also ofTables firstRows
+early-from p [] n h = refl
+early-from p (tablesPart (tableLine c) ∷ ls) n h = refl
+early-from p (tablesPart (rowLine zs) ∷ ls) n h =
+    let (q, e, _) = rest-placed p (tablesPart (rowLine zs)) ls h in
+    let z : none ≡ some q = rw (ne-eqb (p .part) 1 n) at e in clash cc
+early-from p (joinsPart x ∷ ls) n h =
+    let (q, e, k) = rest-placed p (joinsPart x) ls h in early-from q ls (joins-behind p q x e) k
+early-from p (orderPart x ∷ ls) n h =
+    let (q, e, k) = rest-placed p (orderPart x) ls h in early-from q ls (order-behind p q x e) k
+
+-- no D line comes before its first T line
+pub no-early-row : (bs : Bytes) (ls : List Line) → textLines bs ≡ some ls → earlyRows ls ≡ []
+unfolding beforeAll
+no-early-row bs ls e = early-from beforeAll ls (λ z. omega arith) (text-lines bs ls e .1)

@@ -13,7 +13,7 @@ use cells::condition::Side;
 use rows::kind::Kind;
 ghost use mathlib.Core.Path.{_≡_};
 ghost use Rattle.text.specs.Parts.{fieldsFrom};
-ghost use Rattle.text.specs.Lines.{lineOf};
+ghost use Rattle.text.specs.Lines.{tablesPart, joinsPart, orderPart, lineOf};
 ghost use Rattle.text.specs.Forms.{lineRead, formRead, tableForm, rowForm, joinForm, columnForm, constantForm, orderForm};
 
 // What a line says: of a D line, how many cells it has.
@@ -41,7 +41,7 @@ const ORDER: u8 = 80;
 
 // T: columns.
 pub fn table_line(l: &[u8], at: usize) -> LineRead
-    ensures { λ r. ⌜ r ≡ formRead (tableForm (fieldsFrom (now (l .entry)) at)) ⌝ }
+    ensures { λ r. ⌜ r ≡ formRead tablesPart (tableForm (fieldsFrom (now (l .entry)) at)) ⌝ }
 {
     let n = field::number_at(l, at);
     let NumberAt::Value(columns, next) = n else {
@@ -55,7 +55,7 @@ pub fn table_line(l: &[u8], at: usize) -> LineRead
 
 // D: cells, at least one.
 pub fn row_line(l: &[u8], at: usize) -> LineRead
-    ensures { λ r. ⌜ r ≡ formRead (rowForm (fieldsFrom (now (l .entry)) at)) ⌝ }
+    ensures { λ r. ⌜ r ≡ formRead tablesPart (rowForm (fieldsFrom (now (l .entry)) at)) ⌝ }
 {
     if l.len() < at {
         return LineRead::NoForm;
@@ -76,7 +76,7 @@ pub fn row_line(l: &[u8], at: usize) -> LineRead
 
 // J: kind, left, right.
 pub fn join_line(l: &[u8], at: usize) -> LineRead
-    ensures { λ r. ⌜ r ≡ formRead (joinForm (fieldsFrom (now (l .entry)) at)) ⌝ }
+    ensures { λ r. ⌜ r ≡ formRead joinsPart (joinForm (fieldsFrom (now (l .entry)) at)) ⌝ }
 {
     let k = field::kind_at(l, at);
     let KindAt::Value(kind, sides) = k else {
@@ -94,7 +94,7 @@ pub fn join_line(l: &[u8], at: usize) -> LineRead
 
 // C: table, column, operator, table, column.
 pub fn column_line(l: &[u8], at: usize) -> LineRead
-    ensures { λ r. ⌜ r ≡ formRead (columnForm (fieldsFrom (now (l .entry)) at)) ⌝ }
+    ensures { λ r. ⌜ r ≡ formRead joinsPart (columnForm (fieldsFrom (now (l .entry)) at)) ⌝ }
 {
     let p = field::pair_at(l, at);
     let PairAt::Value(table, column, second) = p else {
@@ -121,7 +121,7 @@ pub fn column_line(l: &[u8], at: usize) -> LineRead
 
 // K: table, column, operator, number.
 pub fn constant_line(l: &[u8], at: usize) -> LineRead
-    ensures { λ r. ⌜ r ≡ formRead (constantForm (fieldsFrom (now (l .entry)) at)) ⌝ }
+    ensures { λ r. ⌜ r ≡ formRead joinsPart (constantForm (fieldsFrom (now (l .entry)) at)) ⌝ }
 {
     let p = field::pair_at(l, at);
     let PairAt::Value(table, column, second) = p else {
@@ -148,7 +148,7 @@ pub fn constant_line(l: &[u8], at: usize) -> LineRead
 
 // P: left, right.
 pub fn order_line(l: &[u8], at: usize) -> LineRead
-    ensures { λ r. ⌜ r ≡ formRead (orderForm (fieldsFrom (now (l .entry)) at)) ⌝ }
+    ensures { λ r. ⌜ r ≡ formRead orderPart (orderForm (fieldsFrom (now (l .entry)) at)) ⌝ }
 {
     let p = field::pair_at(l, at);
     let PairAt::Value(left, right, next) = p else {

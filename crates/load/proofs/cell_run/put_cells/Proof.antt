@@ -3,6 +3,7 @@ use mathlib.Core.Path.{_≡_, refl, ap, sym, _∙_}
 use native.Mathlib.Omega.{arith}
 use Prim.Native.Nat.{_+_, _≤_, _-_}
 use borrow.Author.Needs.{needs}
+use Rattle.cells.specs.Limits.{mostBytes}
 use lib.ListN.{length, take, drop}
 use Rattle.text.specs.Bytes.{lineFeed}
 use Rattle.load.specs.Cells.{textCells, linesCells, lineParts, laid, behind, cells-here, cells-past, cells-all, laid-stop, laid-run, part-short}
@@ -11,7 +12,7 @@ use Rattle.load.proofs.cell_run.put_cells.Tie as tie
 
 abbrev Inv-loop : tie.InvT-loop
 Inv-loop text run₀ out₀ at₀ run out at =
-    (at ≤ length text + 1) × (out ≤ at) × (length text ≤ 16384) × (length run ≡ length run₀)
+    (at ≤ length text + 1) × (out ≤ at) × (length text ≤ mostBytes) × (length run ≡ length run₀)
     × (laid run₀ 0 (textCells text) ≡ laid run out (linesCells (lineParts text at)))
 
 abbrev μ-loop : tie.MeasureT-loop

@@ -1,5 +1,4 @@
 -- `reader::join_lines::after_join` meets its contract. Assumes nothing.
-use mathlib.Core.Path.{_≡_, refl, ap, sym, _∙_}
 use Rattle.reader.specs.State.{afterJoin}
 use borrow.Author.Needs.{needs}
 use Rattle.reader.proofs.join_lines.after_join.Statement.{statement}

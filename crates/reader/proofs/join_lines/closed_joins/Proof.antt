@@ -1,5 +1,5 @@
 -- `reader::join_lines::closed_joins` meets its contract: a join past the room is not kept. Assumes nothing.
-use mathlib.Core.Path.{_≡_, refl, ap, sym, _∙_}
+use mathlib.Core.Path.{_≡_}
 use lib.ListN.{length}
 use Rattle.reader.specs.Steps.{set-past}
 use borrow.Author.Needs.{needs}

@@ -1,5 +1,5 @@
 -- `reader::join_lines::no_joins` meets its contract. Assumes nothing.
-use mathlib.Core.Path.{_≡_, refl, ap, sym, _∙_}
+use mathlib.Core.Path.{refl}
 use Rattle.reader.specs.State.{noJoins, noJoin}
 use Rattle.reader.proofs.join_lines.no_joins.Statement.{statement}
 use Rattle.reader.proofs.join_lines.no_joins.Tie as tie

@@ -1,5 +1,4 @@
 -- `reader::pairs::after_pair` meets its contract. Assumes nothing.
-use mathlib.Core.Path.{_≡_, refl, ap, sym, _∙_}
 use Rattle.reader.specs.State.{afterPair}
 use borrow.Author.Needs.{needs}
 use Rattle.reader.proofs.pairs.after_pair.Statement.{statement}

@@ -1,5 +1,5 @@
 -- `reader::read::read` meets its contract: questions 2, 3 and 4 in their order, and then the cells. Assumes nothing.
-use mathlib.Core.Path.{_≡_, refl, ap, sym, _∙_}
+use mathlib.Core.Path.{_∙_}
 use Rattle.reader.specs.Outcome.{outcome-2, outcome-3, outcome-4, outcome-says, text-short, run-refused, run-accepted}
 use borrow.Author.Needs.{needs}
 use borrow.Author.Tests.{not-true, not-false}

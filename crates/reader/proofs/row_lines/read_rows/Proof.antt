@@ -1,16 +1,17 @@
 -- `reader::row_lines::read_rows` meets its contract: reading on after the rows so far is reading on after none of them. Assumes nothing.
-use mathlib.Core.Path.{_≡_, refl, ap, sym, _∙_}
+use mathlib.Core.Path.{sym, _∙_}
 use native.Mathlib.Omega.{arith}
 use Prim.Native.Nat.{_≤_, _-_}
 use lib.ListN.{length}
 use borrow.Author.Needs.{needs}
+use Rattle.cells.specs.Limits.{mostBytes}
 use Rattle.text.specs.Bytes.{lineFeed}
 use Rattle.reader.specs.RowLines.{RowsTo, rows-none, rows-turn}
 use Rattle.reader.proofs.row_lines.read_rows.Statement.{statement}
 use Rattle.reader.proofs.row_lines.read_rows.Tie as tie
 
 abbrev Inv-loop : tie.InvT-loop
-Inv-loop text from t₀ at₀ t at = (length text ≤ 16384) × RowsTo text from t₀ at t
+Inv-loop text from t₀ at₀ t at = (length text ≤ mostBytes) × RowsTo text from t₀ at t
 
 abbrev μ-loop : tie.MeasureT-loop
 μ-loop text from t₀ at₀ t at = length text - at

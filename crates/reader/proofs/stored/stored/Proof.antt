@@ -1,5 +1,4 @@
 -- `reader::stored::stored` meets its contract. Assumes nothing.
-use mathlib.Core.Path.{_≡_, refl, ap, sym, _∙_}
 use Rattle.reader.specs.Query.{storedOf}
 use borrow.Author.Needs.{needs}
 use Rattle.reader.proofs.stored.stored.Statement.{statement}

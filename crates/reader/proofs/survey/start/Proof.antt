@@ -1,5 +1,4 @@
 -- `reader::survey::start` meets its contract. Assumes nothing.
-use mathlib.Core.Path.{_≡_, refl, ap, sym, _∙_}
 use Rattle.reader.specs.Survey.{start}
 use borrow.Author.Needs.{needs}
 use Rattle.reader.proofs.survey.start.Statement.{statement}

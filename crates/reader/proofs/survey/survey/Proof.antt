@@ -1,9 +1,10 @@
 -- `reader::survey::survey` meets its contract: the reading of what is left, after the lines before it, is the reading of the text. Assumes nothing.
-use mathlib.Core.Path.{_≡_, refl, ap, sym, _∙_}
+use mathlib.Core.Path.{_≡_, ap, sym, _∙_}
 use native.Mathlib.Omega.{arith}
 use Prim.Native.Nat.{_≤_, _-_}
 use lib.ListN.{length}
 use borrow.Author.Needs.{needs}
+use Rattle.cells.specs.Limits.{mostBytes}
 use Rattle.text.specs.Bytes.{lineFeed}
 use Rattle.text.specs.Parts.{linesFrom}
 use Rattle.reader.specs.Survey.{afterRead, readFrom, surveyOf, Bounded}
@@ -13,7 +14,7 @@ use Rattle.reader.proofs.survey.survey.Tie as tie
 
 abbrev Inv-loop : tie.InvT-loop
 Inv-loop text s₀ at₀ s at =
-    (at ≤ length text) × (length text ≤ 16384) × Bounded at s × (surveyOf text ≡ readFrom s (linesFrom text at))
+    (at ≤ length text) × (length text ≤ mostBytes) × Bounded at s × (surveyOf text ≡ readFrom s (linesFrom text at))
 
 abbrev μ-loop : tie.MeasureT-loop
 μ-loop text s₀ at₀ s at = length text - at

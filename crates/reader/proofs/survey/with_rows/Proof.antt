@@ -10,11 +10,14 @@ returns c = search needs
 read-rows-requires : tie.Need-read-rows-requires
 read-rows-requires c κs = search needs
 
+with-tables-requires : tie.Need-with-tables-requires
+with-tables-requires c κs = search needs
+
 returns-2 : tie.Need-returns-2
 returns-2 c =
-    let r = c .before .before .before in
+    let r = c .before .before in
     let i = r .before .before in
-    reads-rows _ _ _ _ _ (i .before .before .before .pre .2) (i .if1 .left) (r .read-rows .ensures)
+    reads-rows _ _ _ _ _ (i .before .before .before .pre .2) (i .if1 .left) (r .read-rows .ensures) (c .with-tables .ensures)
 
 pub with-rows-spec : {M : Type 1} → statement M
-with-rows-spec = tie.close (tie.spec returns read-rows-requires returns-2)
+with-rows-spec = tie.close (tie.spec returns read-rows-requires with-tables-requires returns-2)

@@ -1,5 +1,4 @@
 -- `reader::tables::after_row` meets its contract. Assumes nothing.
-use mathlib.Core.Path.{_≡_, refl, ap, sym, _∙_}
 use Rattle.reader.specs.State.{afterRow}
 use borrow.Author.Needs.{needs}
 use Rattle.reader.proofs.tables.after_row.Statement.{statement}

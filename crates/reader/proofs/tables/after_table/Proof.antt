@@ -1,5 +1,4 @@
 -- `reader::tables::after_table` meets its contract. Assumes nothing.
-use mathlib.Core.Path.{_≡_, refl, ap, sym, _∙_}
 use Rattle.reader.specs.State.{afterTable}
 use borrow.Author.Needs.{needs}
 use Rattle.reader.proofs.tables.after_table.Statement.{statement}

@@ -1,5 +1,5 @@
 -- `reader::tables::closed_rows` meets its contract: rows past the room are not kept. Assumes nothing.
-use mathlib.Core.Path.{_≡_, refl, ap, sym, _∙_}
+use mathlib.Core.Path.{_≡_}
 use lib.ListN.{length}
 use Rattle.reader.specs.State.{closedRows}
 use Rattle.reader.specs.Steps.{closed-past}

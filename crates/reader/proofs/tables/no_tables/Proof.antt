@@ -1,5 +1,5 @@
 -- `reader::tables::no_tables` meets its contract. Assumes nothing.
-use mathlib.Core.Path.{_≡_, refl, ap, sym, _∙_}
+use mathlib.Core.Path.{refl}
 use Rattle.reader.specs.State.{noTables}
 use Rattle.reader.proofs.tables.no_tables.Statement.{statement}
 use Rattle.reader.proofs.tables.no_tables.Tie as tie

@@ -1,5 +1,5 @@
 -- `reader::tables::opened_table` meets its contract: a table past the room is not kept. Assumes nothing.
-use mathlib.Core.Path.{_≡_, refl, ap, sym, _∙_}
+use mathlib.Core.Path.{_≡_, refl}
 use lib.ListN.{length}
 use Rattle.reader.specs.State.{openedTable}
 use Rattle.reader.specs.Steps.{opened-past}

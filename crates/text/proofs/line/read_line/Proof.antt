@@ -1,6 +1,7 @@
 -- `text::line::read_line` meets its contract: one law for each letter. Assumes nothing.
-use mathlib.Core.Path.{_≡_, _∙_}
+use mathlib.Core.Path.{_≡_, ap, _∙_}
 use Rattle.text.specs.Bytes.{tab}
+use Rattle.text.specs.Forms.{lineRead}
 use Rattle.text.specs.Letters.{line-T, line-D, line-J, line-C, line-K, line-P, line-long, line-other}
 use borrow.Author.Needs.{needs}
 use Rattle.text.proofs.line.read_line.Statement.{statement}
@@ -11,7 +12,7 @@ part-end-requires c κs = search needs
 
 returns : tie.Need-returns
 unfolding tab
-returns c = line-long _ _ (c .before .part-end .ensures .0) (c .before .part-end .ensures .2) (c .if1 .taken)
+returns c = ap lineRead (line-long _ _ (c .before .part-end .ensures .0) (c .before .part-end .ensures .2) (c .if1 .taken))
 
 shared-slice-read-letter : tie.Need-shared-slice-read-letter
 shared-slice-read-letter c = search needs

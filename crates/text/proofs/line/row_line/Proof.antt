@@ -5,7 +5,7 @@ use Prim.Native.Nat.{_+_, _≤_, _-_}
 use lib.ListN.{length}
 use Rattle.text.specs.Bytes.{tab}
 use Rattle.text.specs.Numbers.{ifMade, cell}
-use Rattle.text.specs.Lines.{readAll}
+use Rattle.text.specs.Lines.{tablesPart, readAll}
 use Rattle.text.specs.Parts.{fieldsFrom}
 use Rattle.text.specs.Forms.{formRead, rowForm, rowFrom, row-none, row-start, row-bad, row-more, row-end}
 use borrow.Author.Needs.{needs}
@@ -14,7 +14,7 @@ use Rattle.text.proofs.line.row_line.Tie as tie
 
 abbrev Inv-loop : tie.InvT-loop
 Inv-loop l at n₀ i₀ n i =
-    (i ≤ length l + 1) × (n ≤ i) × (formRead (rowForm (fieldsFrom l at)) ≡ rowFrom n (readAll cell (fieldsFrom l i)))
+    (i ≤ length l + 1) × (n ≤ i) × (formRead tablesPart (rowForm (fieldsFrom l at)) ≡ rowFrom n (readAll cell (fieldsFrom l i)))
 
 abbrev μ-loop : tie.MeasureT-loop
 μ-loop l at n₀ i₀ n i = length l + 1 - i

@@ -1,0 +1,56 @@
+// Where a line stands in a text: question 2 on its place.
+use text::line::LineRead;
+ghost use mathlib.Core.Path.{_≡_};
+ghost use Rattle.reader.specs.Survey.{nextIn, opensAt, followsAt, nextRead};
+
+// The part of the text that the line belongs to; 0 before the first line.
+pub struct Place {
+    pub part: u8,
+}
+
+// The place of a line, if it may stand there.
+pub enum Next {
+    At(Place),
+    Nowhere,
+}
+
+// The parts of a text.
+pub const TABLES: u8 = 1;
+
+pub const JOINS: u8 = 2;
+
+pub const ORDER: u8 = 3;
+
+// The place of a line that may stand behind lines of its part and of the parts before it.
+fn opens(p: Place, part: u8) -> Next
+    ensures { λ r. ⌜ nextIn r ≡ opensAt p part ⌝ }
+{
+    if part < p.part {
+        return Next::Nowhere;
+    }
+    Next::At(Place { part: part })
+}
+
+// The place of a line that must stand behind a line of its part.
+fn follows(p: Place, part: u8) -> Next
+    ensures { λ r. ⌜ nextIn r ≡ followsAt p part ⌝ }
+{
+    if p.part != part {
+        return Next::Nowhere;
+    }
+    Next::At(Place { part: part })
+}
+
+// The place of a line behind one at place `p`.
+pub fn next_place(p: Place, x: LineRead) -> Next
+    ensures { λ r. ⌜ nextIn r ≡ nextRead p x ⌝ }
+{
+    match x {
+        LineRead::Table(n) => opens(p, TABLES),
+        LineRead::Row(n) => follows(p, TABLES),
+        LineRead::Join(k, l, r) => opens(p, JOINS),
+        LineRead::Condition(c) => follows(p, JOINS),
+        LineRead::Order(l, r) => opens(p, ORDER),
+        LineRead::NoForm => Next::Nowhere,
+    }
+}
