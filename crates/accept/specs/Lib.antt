@@ -1,2 +1,3 @@
 pub mod Accept
+pub mod Standing
 pub mod AcceptLaws

@@ -1,19 +1,31 @@
-// A text through questions 2 to 7, in order: the first that is answered no, or the query and the cells.
+// A text through questions 2 to 8, in order: the first that is answered no, or the query and the cells.
 use plan::query::StoredQuery;
+use plan::simplified;
 use questions::built;
 use questions::conditions;
 use questions::crossing;
 use reader::read;
-use reader::read::Answer;
-use reader::read::Outcome;
 ghost use mathlib.Core.Path.{_≡_};
 ghost use Prim.Native.Nat.{_≤_};
-ghost use Rattle.accept.specs.Accept.{numberIn, storedRefusal, Accepts};
+ghost use Rattle.cells.specs.Limits.{mostTables};
+ghost use Rattle.accept.specs.Accept.{Asked, Accepts};
 
-// Questions 5, 6 and 7.
+// The number of the question that turned the text down; or accepted.
+pub enum Outcome {
+    Refused(u8),
+    Accepted,
+}
+
+// The query is the text's where it is accepted.
+pub struct Answer {
+    pub outcome: Outcome,
+    pub query: StoredQuery,
+}
+
+// Questions 5 to 8.
 fn ask(q: StoredQuery) -> Outcome
-    requires { ⌜ q .«table_count» ≤ 8 ⌝ }
-    ensures { λ r. ⌜ numberIn r ≡ storedRefusal q ⌝ }
+    requires { ⌜ q .«table_count» ≤ mostTables ⌝ }
+    ensures { λ r. ⌜ Asked q r ⌝ }
 {
     if !built::joins_built(q) {
         return Outcome::Refused(5);
@@ -23,6 +35,9 @@ fn ask(q: StoredQuery) -> Outcome
     }
     if !crossing::joins_cross(q) {
         return Outcome::Refused(7);
+    }
+    if !simplified::is_simplified(q) {
+        return Outcome::Refused(8);
     }
     Outcome::Accepted
 }
@@ -35,11 +50,11 @@ pub fn accept(text: &[u8], cells: &mut [i32]) -> Answer
     let outcome = a.outcome;
     let query = a.query;
     match outcome {
-        Outcome::Refused(n) => Answer {
+        read::Outcome::Refused(n) => Answer {
             outcome: Outcome::Refused(n),
             query: query,
         },
-        Outcome::Accepted => Answer {
+        read::Outcome::Accepted => Answer {
             outcome: ask(query),
             query: query,
         },

@@ -1,2 +1,2 @@
-// Questions 2 to 7, put to a text.
+// Questions 2 to 8, put to a text.
 pub mod accept;

@@ -1,5 +1,5 @@
--- What a status tells: 0 is an answer's, 1 to 11 are those of the refusals, and 255 says that the run for the answer is too short.
--- Assumes nothing.
+-- What a status tells: 0 is an answer's, the number of a question that the call is asked is that of a refusal, and 255 says that the run
+-- for the answer is too short. Assumes nothing.
 use mathlib.Core.Path.{_≡_, ap, _∙_}
 use mathlib.Core.Logic.{_⊎_, inl, inr}
 use mathlib.Core.List.{List, [], _∷_}
@@ -7,24 +7,25 @@ use Prim.Native.Nat.{ℕ, _≤_}
 use lib.ListN.{length, replicate}
 use borrow.Author.Tests.{le-ltb}
 use Rattle.cells.specs.Limits.{mostSteps}
+use Rattle.rows.specs.ListLaws.{_isIn_}
 use Rattle.plan.specs.Steps.{zeroStep}
 use Rattle.text.specs.Bytes.{Bytes}
 use Rattle.engine.specs.Calls.{Lent, reportCall, directCall}
-use Rattle.engine.specs.CallLaws.{Decided, report-decided, direct-decided}
+use Rattle.engine.specs.CallLaws.{askedOfReport, askedOfDirect, Decided, report-decided, direct-decided}
 use Rattle.engine.specs.declared.answer.Answer.{Answer}
 use Rattle.engine.specs.Gave.{widthOf}
 use Rattle.engine.specs.declared.answer.Answer.the-variants.{Rows, Refused}
 use Rattle.capi.specs.Numbers.{answerRoom, statusOf, rowsOf}
 use Rattle.capi.specs.Entries.{entry, reportNumbers, reportEntry, directEntry}
 
--- a status tells which answer there is
-abbrev pub Told : Answer → ℕ → Type 0
-Told a s = ((n : ℕ) × (a ≡ Rows n) × (s ≡ 0)) ⊎ ((n : ℕ) × (a ≡ Refused n) × (s ≡ n) × (1 ≤ n) × (n ≤ 11))
+-- a status tells which answer there is: rows, or one of these numbers
+abbrev pub Told : List ℕ → Answer → ℕ → Type 0
+Told ns a s = ((n : ℕ) × (a ≡ Rows n) × (s ≡ 0)) ⊎ ((n : ℕ) × (a ≡ Refused n) × (s ≡ n) × (n isIn ns))
 
-told : (a : Answer) (s : ℕ) → s ≡ statusOf a → Decided a → Told a s
+told : (ns : List ℕ) (a : Answer) (s : ℕ) → s ≡ statusOf a → Decided ns a → Told ns a s
 unfolding statusOf
-told a s f (inl (n, e)) = inl (n, e, f ∙ ap statusOf e)
-told a s f (inr (n, e, l, h)) = inr (n, e, f ∙ ap statusOf e, l, h)
+told ns a s f (inl (n, e)) = inl (n, e, f ∙ ap statusOf e)
+told ns a s f (inr (n, e, h)) = inr (n, e, f ∙ ap statusOf e, h)
 
 with-room : (least : ℕ) (a : Answer) (numbers : List ℕ) (after before : Lent) (run : List ℕ) → least ≤ length run
     → entry least a numbers after before run .status ≡ statusOf a
@@ -32,14 +33,14 @@ unfolding entry
 with-room least a numbers after before run h = rw (le-ltb (length run) least h)
 
 module _ (text : Bytes) (m : Lent) (run : List ℕ) where
-  pub report-told : answerRoom ≤ length run → Told (reportCall text m (replicate mostSteps zeroStep) .answer) (reportEntry text m run .status)
+  pub report-told : answerRoom ≤ length run → Told askedOfReport (reportCall text m (replicate mostSteps zeroStep) .answer) (reportEntry text m run .status)
   unfolding reportEntry
   report-told h =
       let c = reportCall text m (replicate mostSteps zeroStep) in
-      told (c .answer) _ (with-room answerRoom (c .answer) (reportNumbers c) (c .lent) m run h) (report-decided text m (replicate mostSteps zeroStep))
+      told askedOfReport (c .answer) _ (with-room answerRoom (c .answer) (reportNumbers c) (c .lent) m run h) (report-decided text m (replicate mostSteps zeroStep))
 
-  pub direct-told : 2 ≤ length run → Told (directCall text m .answer) (directEntry text m run .status)
+  pub direct-told : 2 ≤ length run → Told askedOfDirect (directCall text m .answer) (directEntry text m run .status)
   unfolding directEntry
   direct-told h =
       let c = directCall text m in
-      told (c .answer) _ (with-room 2 (c .answer) (rowsOf (c .answer) ∷ widthOf text (c .answer) ∷ []) (c .lent) m run h) (direct-decided text m)
+      told askedOfDirect (c .answer) _ (with-room 2 (c .answer) (rowsOf (c .answer) ∷ widthOf text (c .answer) ∷ []) (c .lent) m run h) (direct-decided text m)

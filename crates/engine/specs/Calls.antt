@@ -1,12 +1,12 @@
 -- A call of the engine or of the direct reading, for any arguments: its answer, and all lent memory afterwards. Document 01,
 -- "Questions, in order". Assumes nothing.
 use mathlib.Core.Bool.{Bool, true, false, _&&_}
-use mathlib.Core.List.{List, [], _∷_, _++_, flatMap}
+use mathlib.Core.List.{List, [], _++_, flatMap}
 use Prim.Native.Nat.{ℕ, _-_}
 use lib.Dec.{leb}
 use lib.IntN.{ℤ, pos}
 use lib.ListN.{length, drop, replicate}
-use Rattle.cells.specs.Limits.{mostTables}
+use Rattle.cells.specs.Limits.{mostTables, cellRoom, workRoom, resultRoom, stepListRoom}
 use Rattle.cells.specs.Row.{Row}
 use Rattle.plan.specs.Facts.{noFacts}
 use Rattle.plan.specs.Steps.{zeroStep}
@@ -26,11 +26,11 @@ pub record Lent : Type 0 where
 -- 1, without the step list: "Has the work buffer at least 16,384 and the result buffer at least 2,048 16-bit numbers, the cell
 -- run at least 4,096 numbers ..?"
 unfoldable pub question1Direct : Lent → Bool
-question1Direct m = leb 16384 (length (m .work)) && leb 2048 (length (m .result)) && leb 4096 (length (m .cells))
+question1Direct m = leb workRoom (length (m .work)) && leb resultRoom (length (m .result)) && leb cellRoom (length (m .cells))
 
 -- 1: ".. and the step list (not lent for the direct reading) at least 16 steps?"
 unfoldable pub question1 : Lent → List Step → Bool
-question1 m steps = question1Direct m && leb 16 (length steps)
+question1 m steps = question1Direct m && leb stepListRoom (length steps)
 
 -- "writes rows × tables numbers, row after row; the rest of the result buffer keeps its contents"
 unfoldable pub written : List Row → List ℕ → List ℕ

@@ -24,9 +24,10 @@ use Rattle.text.specs.Print.{digitsOf, printNumber, printFields, bitNumbers, pr
 use Rattle.plan.specs.Bits.{hasBit}
 use Rattle.plan.specs.Database.{databaseOf, tableAt, rowsIn, cellsOf, database}
 use Rattle.run.specs.Runs.{results, withinLimit, directRows, question11Direct, runRows, reportRows, pairCounts, reportSteps, question11}
-use Rattle.engine.specs.Answers.{firstNo, sharedQuestions, orderQuestions, reportQuestions, directQuestions, outcomeFor, outcomeBy, reportAnswer, reportOutcome, directOutcome}
+use Rattle.plan.specs.Asking.{firstNo, about, tableQuestions, queryQuestions, orderQuestions, sharedQuestions, questionsOfReport, questionsOfDirect}
+use Rattle.engine.specs.Answers.{reportQuestions, directQuestions, outcomeFor, outcomeBy, reportAnswer, reportOutcome, directOutcome}
 use Rattle.engine.specs.Programs.{printReport, printDirect, report, direct}
 
 unfoldable pub computing : Unit {0}
-unfolding flatMap zipWith blankCell lowestCell highestCell cellOf eqZ isBlank columnOf outcomeOf never operators says holds blankRow cellIn sideIn trueIn sideNames namesOf ownCell cellsIn range all any keep orElse distinct insert sort has single over merge same before ordered whollyBlank within dominated bestMatch tablesUnder outerProduct allTrue matches joined rowsOf nullify nullifyAll finished planRows queryOf tableCount tableNumbers conditionNumbers noCondition conditionAt namedBy joinPairs orderOr joinOrder grown tablesAt tablesOfPair nodesOf joinNodes orderNodes treeAt treeOf treesOf lastTree joinTrees joinTree setOf blanksLeft blanksRight taken setAfter setsAfter setsBy emptySets blankingSets between crosses inEvery usable paired fitsKind usableAt allIn pairFits planned plannedJoins planTrees planTree pairSets appliedSets missing asks blankings bitsOf kindNumber pairStep blankingStep bestMatchStep zeroStep stepsOf lowerSides sidesOf noneTwice wellBuilt question5 noneOrBuilt question9 columnExists sideExists conditionFits question6 question7 rightSides namesRightSide question8 kindsFit question10 bytes tab lineFeed sameBytes cut split closed digit decimal valueOf natural small positive negative number ifMade constant cell kindOf field oneOf end both readAll word numberField kindField operatorField cellFields formT formD formJ formC formK formP firstOf inPart lineBy lineOf linesOf beforeAll opens follows next placed also picked ofTables ofJoins ofOrder firstRows tablesOf firstConditions joinsOf conditionsOf pairsOf reportOf ifPlaced textLines readReport cellsInRows cellsInTables tableFits question3 question4 digitsOf printNumber printFields hasBit bitNumbers printEntry printSets kindLetter printStep printRow printRefusal databaseOf tableAt rowsIn cellsOf database results withinLimit directRows question11Direct runRows reportRows pairCounts reportSteps question11 firstNo sharedQuestions orderQuestions reportQuestions directQuestions outcomeFor outcomeBy reportAnswer reportOutcome directOutcome printReport printDirect report direct
+unfolding flatMap zipWith blankCell lowestCell highestCell cellOf eqZ isBlank columnOf outcomeOf never operators says holds blankRow cellIn sideIn trueIn sideNames namesOf ownCell cellsIn range all any keep orElse distinct insert sort has single over merge same before ordered whollyBlank within dominated bestMatch tablesUnder outerProduct allTrue matches joined rowsOf nullify nullifyAll finished planRows queryOf tableCount tableNumbers conditionNumbers noCondition conditionAt namedBy joinPairs orderOr joinOrder grown tablesAt tablesOfPair nodesOf joinNodes orderNodes treeAt treeOf treesOf lastTree joinTrees joinTree setOf blanksLeft blanksRight taken setAfter setsAfter setsBy emptySets blankingSets between crosses inEvery usable paired fitsKind usableAt allIn pairFits planned plannedJoins planTrees planTree pairSets appliedSets missing asks blankings bitsOf kindNumber pairStep blankingStep bestMatchStep zeroStep stepsOf lowerSides sidesOf noneTwice wellBuilt question5 noneOrBuilt question9 columnExists sideExists conditionFits question6 question7 rightSides namesRightSide question8 kindsFit question10 bytes tab lineFeed sameBytes cut split closed digit decimal valueOf natural small positive negative number ifMade constant cell kindOf field oneOf end both readAll word numberField kindField operatorField cellFields formT formD formJ formC formK formP firstOf inPart lineBy lineOf linesOf beforeAll opens follows next placed also picked ofTables ofJoins ofOrder firstRows tablesOf firstConditions joinsOf conditionsOf pairsOf reportOf ifPlaced textLines readReport cellsInRows cellsInTables tableFits question3 question4 digitsOf printNumber printFields hasBit bitNumbers printEntry printSets kindLetter printStep printRow printRefusal databaseOf tableAt rowsIn cellsOf database results withinLimit directRows question11Direct runRows reportRows pairCounts reportSteps question11 firstNo about tableQuestions queryQuestions orderQuestions sharedQuestions questionsOfReport questionsOfDirect reportQuestions directQuestions outcomeFor outcomeBy reportAnswer reportOutcome directOutcome printReport printDirect report direct
 computing = tt

@@ -3,13 +3,15 @@
 use mathlib.Core.Path.{_≡_, refl, sym, ap, _∙_, subst}
 use mathlib.Core.Bool.{Bool, true, false}
 use mathlib.Core.List.{List, [], _∷_, _++_}
-use mathlib.Core.Option.{Option, none, some}
+use mathlib.Core.Option.{none, some}
 use Prim.Native.Nat.{ℕ}
 use lib.ListN.{length}
 use Rattle.cells.specs.Row.{Row}
 use Rattle.cells.specs.BoolLaws.{clash}
 use Rattle.rows.specs.ListLaws.{here}
 use Rattle.rows.specs.Due.{Reads}
+use Rattle.plan.specs.Asking.{firstNo, about, sharedQuestions, orderQuestions, questionsOfReport, questionsOfDirect}
+use Rattle.plan.specs.AskingLaws.{all-yes, append-yes, first-about}
 use Rattle.plan.specs.Report.{Report, Query, queryOf}
 use Rattle.plan.specs.Nodes.{joinTree}
 use Rattle.plan.specs.Plan.{groundOf, blankings}
@@ -19,15 +21,12 @@ use Rattle.plan.specs.Database.{database}
 use Rattle.plan.specs.Facts.{noFacts}
 use Rattle.plan.specs.declared.step.Step.{Step}
 use Rattle.text.specs.Bytes.{Bytes}
-use Rattle.text.specs.Lines.{Line}
-use Rattle.text.specs.Reading.{textLines, reportOf, readReport}
-use Rattle.text.specs.ReadingLaws.{read-report}
+use Rattle.text.specs.Reading.{readReport}
 use Rattle.run.specs.Runs.{directRows, reportRows, question11, question11Direct}
-use Rattle.engine.specs.Answers.{Outcome, refused, answered, Question, firstNo, sharedQuestions, orderQuestions, reportQuestions, directQuestions, outcomeFor, outcomeBy, ReportAnswer, reportAnswer, reportOutcome, directOutcome}
-use Rattle.engine.specs.AnswerLaws.{all-yes, append-yes}
+use Rattle.engine.specs.Answers.{Outcome, refused, answered, reportQuestions, directQuestions, ReportAnswer, reportAnswer, reportOutcome, directOutcome}
+use Rattle.engine.specs.AnswerLaws.{read-well, answered-report}
 use Rattle.engine.specs.Calls.{Lent, question1, question1Direct, written, ReportCall, reportAfter, reportCall, DirectCall, directAfter, directCall, cleared}
 use Rattle.engine.specs.Demand3Proof.{report-rows, report-reads}
-use Rattle.engine.specs.declared.answer.Answer.{Answer}
 use Rattle.engine.specs.declared.answer.Answer.the-variants.{Rows, Refused}
 
 -- the rows are those of the tree that the text says: each due row once, no other, in rising order
@@ -38,49 +37,33 @@ pub record DueRows (text : Bytes) (rows : List Row) : Type 0 where
 
 -- ---- the rows of an answer
 
--- a text that is answered has lines, which no question turns down
-answered-lines : {A : Type 0} (qs : List Question) (answer : Report → A) (text : Bytes) (a : A) → outcomeBy qs answer text ≡ answered a
-    → (ls : List Line) × (textLines text ≡ some ls) × (firstNo qs (reportOf ls) ≡ none) × (answer (reportOf ls) ≡ a)
-unfolding outcomeBy outcomeFor readReport
-answered-lines {A} qs answer text a e = go (textLines text) refl e
-  where
-    asked : (r : Report) (y : Option ℕ) → firstNo qs r ≡ y
-        → _≡_ {A = Outcome A} (elim y [ some n ↦ refused n | none ↦ answered (answer r) ]) (answered a) → (firstNo qs r ≡ none) × (answer r ≡ a)
-    asked r none p k = (p, let z : answer r ≡ a = cc in z)
-    asked r (some n) p k = clash cc
-
-    go : (o : Option (List Line)) → textLines text ≡ o
-        → outcomeFor qs answer (elim o as (λ z. Option Report) [ none ↦ none | some ls ↦ some (reportOf ls) ]) ≡ answered a
-        → (ls : List Line) × (textLines text ≡ some ls) × (firstNo qs (reportOf ls) ≡ none) × (answer (reportOf ls) ≡ a)
-    go none p k = clash cc
-    go (some ls) p k = let (f, g) = asked (reportOf ls) (firstNo qs (reportOf ls)) refl k in (ls, p, f, g)
-
-due-rows : (text : Bytes) (ls : List Line) → textLines text ≡ some ls → firstNo sharedQuestions (reportOf ls) ≡ none → (rows : List Row)
-    → directRows (reportOf ls) ≡ rows → DueRows text rows
-due-rows text ls read passed rows e = record {
-  report = reportOf ls;
-  read = read-report text ls read;
-  reads = subst (Reads (database (reportOf ls)) (joinTree (queryOf (reportOf ls)))) e (report-reads ls passed);
+due-rows : (text : Bytes) (r : Report) → readReport text ≡ some r → firstNo sharedQuestions r ≡ none → (rows : List Row)
+    → directRows r ≡ rows → DueRows text rows
+due-rows text r read passed rows e = record {
+  report = r;
+  read = read;
+  reads = subst (Reads (database r) (joinTree (queryOf r))) e (report-reads r (read-well text r read) passed);
 }
 
 -- the rows of an answer of the engine
 pub report-due : (text : Bytes) (a : ReportAnswer) → reportOutcome text ≡ answered a → DueRows text (a .rows)
-unfolding reportOutcome reportQuestions orderQuestions reportAnswer reportRows
+unfolding reportOutcome reportQuestions questionsOfReport orderQuestions reportAnswer reportRows
 report-due text a e =
-    let (ls, read, passed, same) = answered-lines reportQuestions reportAnswer text a e in
-    let (before, last) = append-yes (sharedQuestions ++ orderQuestions) ((11, λ (r : Report). question11 r) ∷ []) (reportOf ls) passed in
-    let (shared, order) = append-yes sharedQuestions orderQuestions (reportOf ls) before in
-    let nine = all-yes orderQuestions (reportOf ls) order (9, λ (r : Report). question9 (queryOf r)) (here refl) in
-    due-rows text ls read shared (a .rows)
-    (sym (report-rows ls shared nine (blankings (groundOf (queryOf (reportOf ls)))) (own-list (groundOf (queryOf (reportOf ls))))) ∙ ap (λ (x : ReportAnswer). x .rows) same)
+    let (r, read, passed, same) = answered-report reportQuestions reportAnswer text a e in
+    let (before, last) = append-yes (sharedQuestions ++ about queryOf orderQuestions) ((11, λ (r : Report). question11 r) ∷ []) r passed in
+    let (shared, order) = append-yes sharedQuestions (about queryOf orderQuestions) r before in
+    let nine = all-yes orderQuestions (queryOf r) (sym (first-about queryOf orderQuestions r) ∙ order) (9, λ (q : Query). question9 q) (here refl) in
+    due-rows text r read shared (a .rows)
+    (sym (report-rows r (read-well text r read) shared nine (blankings (groundOf (queryOf r))) (own-list (groundOf (queryOf r))))
+    ∙ ap (λ (x : ReportAnswer). x .rows) same)
 
 -- the rows of an answer of the direct reading
 pub direct-due : (text : Bytes) (rows : List Row) → directOutcome text ≡ answered rows → DueRows text rows
-unfolding directOutcome directQuestions
+unfolding directOutcome directQuestions questionsOfDirect
 direct-due text rows e =
-    let (ls, read, passed, same) = answered-lines directQuestions directRows text rows e in
-    let (shared, rest) = append-yes sharedQuestions ((11, λ (r : Report). question11Direct r) ∷ []) (reportOf ls) passed in
-    due-rows text ls read shared rows same
+    let (r, read, passed, same) = answered-report directQuestions directRows text rows e in
+    let (shared, rest) = append-yes sharedQuestions ((11, λ (r : Report). question11Direct r) ∷ []) r passed in
+    due-rows text r read shared rows same
 
 -- ---- what the routines write
 

@@ -5,6 +5,7 @@ use mathlib.Core.List.{List}
 use mathlib.Core.Option.{none, some}
 use Prim.Native.Nat.{ℕ}
 use Rattle.rows.specs.Nullification.{Blanking}
+use Rattle.plan.specs.Asking.{firstNo, sharedQuestions, orderQuestions}
 use Rattle.plan.specs.Report.{queryOf}
 use Rattle.plan.specs.Plan.{groundOf}
 use Rattle.plan.specs.StepLists.{StepList}
@@ -13,7 +14,6 @@ use Rattle.text.specs.Lines.{Line}
 use Rattle.text.specs.Reading.{textLines, reportOf}
 use Rattle.text.specs.QueryLines.{queryLines}
 use Rattle.run.specs.Runs.{directRows, runRows}
-use Rattle.engine.specs.Answers.{firstNo, sharedQuestions, orderQuestions}
 
 -- Two texts and their lines (question 2 turns neither down), with the same T, D, J, C and K lines. "The query with its tables is
 -- accepted if nothing that the direct reading is asked before question 11 turns either text down [3 to 8]; an order is admitted if no
@@ -24,7 +24,7 @@ pub record SameQuery (first second : Bytes) (a b : List Line) : Type 0 where
   pub same-query : queryLines a ≡ queryLines b
   pub first-accepted : firstNo sharedQuestions (reportOf a) ≡ none
   pub second-accepted : firstNo sharedQuestions (reportOf b) ≡ none
-  pub order-admitted : firstNo orderQuestions (reportOf b) ≡ none
+  pub order-admitted : firstNo orderQuestions (queryOf (reportOf b)) ≡ none
 
 -- For every list of blanking steps that document 01 allows after the second text's pairs, the run of its plan gives the rows of the
 -- first text's tree read directly: as many, and row after row the same row number or blank in every table

@@ -1,6 +1,6 @@
 -- The proof of demand 3 from the theorem on joining orders (crate rows), the laws of the query and the plan (crate plan) and those of
 -- the report's conditions (crate run). Assumes nothing.
-use mathlib.Core.Path.{_≡_, refl, sym, ap, _∙_, subst}
+use mathlib.Core.Path.{_≡_, refl, sym, _∙_}
 use mathlib.Core.Logic.{_⊎_, inl, inr}
 use mathlib.Core.List.{List, [], _∷_, _++_}
 use mathlib.Core.Option.{none, some}
@@ -8,25 +8,27 @@ use Prim.Native.Nat.{ℕ, _≤_}
 use lib.Dec.{T}
 use Rattle.cells.specs.Row.{Row, blankRow}
 use Rattle.cells.specs.declared.condition.Condition.{Condition}
-use Rattle.rows.specs.ListLaws.{here, there}
+use Rattle.rows.specs.ListLaws.{here}
 use Rattle.rows.specs.Nullification.{Blanking}
 use Rattle.rows.specs.Due.{Reads}
+use Rattle.plan.specs.Asking.{firstNo, about, sharedQuestions, orderQuestions, questionsOfReport, questionsOfDirect}
+use Rattle.plan.specs.AskingLaws.{all-yes, none-then, last-question, first-about}
 use Rattle.plan.specs.Nodes.{joinTree}
-use Rattle.plan.specs.Report.{Table, Join, Pair, Report, queryOf, tableCount, joinPairs}
+use Rattle.plan.specs.Report.{Table, Join, Pair, Query, Report, queryOf, tableCount, joinPairs}
 use Rattle.plan.specs.Plan.{groundOf, blankings}
 use Rattle.plan.specs.Questions.{question5, question9, question10, noneOrBuilt, wellBuilt}
-use Rattle.plan.specs.QueryLaws.{Accepted}
+use Rattle.plan.specs.QueryLaws.{WellRead}
 use Rattle.plan.specs.StepLists.{StepList, own-list}
 use Rattle.text.specs.Bytes.{Bytes}
 use Rattle.text.specs.Lines.{Line}
-use Rattle.text.specs.Reading.{textLines, reportOf}
+use Rattle.text.specs.Reading.{textLines, reportOf, readReport}
+use Rattle.text.specs.ReadingLaws.{report-well-read, read-report}
 use Rattle.text.specs.QueryLines.{queryLines, same-tables, same-joins, same-conditions}
-use Rattle.plan.specs.TableQuestions.{question3}
 use Rattle.plan.specs.Database.{rowsIn, database}
 use Rattle.run.specs.Runs.{directRows, runRows, reportRows, question11Direct, question11}
 use Rattle.run.specs.RunLaws.{direct-without-order, run-rows, kinds-fit, direct-reads}
-use Rattle.engine.specs.Answers.{Outcome, refused, answered, Question, firstNo, sharedQuestions, orderQuestions, directQuestions, reportQuestions, ReportAnswer, reportAnswer, reportOutcome, directOutcome}
-use Rattle.engine.specs.AnswerLaws.{all-yes, report-accepted, few-rows, none-then, last-question, outcome-answered, outcome-refused}
+use Rattle.engine.specs.Answers.{refused, answered, directQuestions, reportQuestions, ReportAnswer, reportAnswer, reportOutcome, directOutcome}
+use Rattle.engine.specs.AnswerLaws.{three-yes, report-accepted, few-rows, outcome-answered, outcome-refused}
 use Rattle.engine.specs.Demand3.{SameQuery, Demand3}
 
 -- the direct reading of texts with the same query is the same
@@ -40,29 +42,27 @@ direct-same a b same =
         ≡ directRows (record { tables = u; joins = j; conditions = d; pairs = reportOf b .pairs })
     fields e f g = rw (e, f, g)
 
-module _ (ls : List Line) (accepted : firstNo sharedQuestions (reportOf ls) ≡ none) where
-  few : (t : ℕ) → rowsIn (reportOf ls) t ≤ blankRow
-  unfolding sharedQuestions
-  few = few-rows (reportOf ls) (all-yes sharedQuestions (reportOf ls) accepted (3, λ (r : Report). question3 r) (here refl))
+module _ (r : Report) (well : WellRead (queryOf r)) (accepted : firstNo sharedQuestions r ≡ none) where
+  few : (t : ℕ) → rowsIn r t ≤ blankRow
+  few = few-rows r (three-yes r accepted)
 
   -- both runs of one accepted report whose order question 9 does not turn down
-  pub report-rows : T (question9 (queryOf (reportOf ls))) → (L : List (Blanking ℕ)) → StepList (groundOf (queryOf (reportOf ls))) L
-      → runRows (reportOf ls) L ≡ directRows (reportOf ls)
-  report-rows = run-rows (reportOf ls) (report-accepted ls accepted) few
+  pub report-rows : T (question9 (queryOf r)) → (L : List (Blanking ℕ)) → StepList (groundOf (queryOf r)) L → runRows r L ≡ directRows r
+  report-rows = run-rows r (report-accepted r accepted well) few
 
   -- the tree read directly has each due row once and no other, in rising order
-  pub report-reads : Reads (database (reportOf ls)) (joinTree (queryOf (reportOf ls))) (directRows (reportOf ls))
-  report-reads = direct-reads (reportOf ls) (report-accepted ls accepted) few
+  pub report-reads : Reads (database r) (joinTree (queryOf r)) (directRows r)
+  report-reads = direct-reads r (report-accepted r accepted well) few
 
   -- question 10 turns down no accepted report
-  pub question10-never : T (question10 (queryOf (reportOf ls)))
-  question10-never = kinds-fit (reportOf ls) (report-accepted ls accepted) few
+  pub question10-never : T (question10 (queryOf r))
+  question10-never = kinds-fit r (report-accepted r accepted well) few
 
 -- demand 3
 pub demand-3 : Demand3
 unfolding orderQuestions
 demand-3 first second a b s L list =
-    report-rows b (s .second-accepted) (all-yes orderQuestions (reportOf b) (s .order-admitted) (9, λ (r : Report). question9 (queryOf r)) (here refl)) L list
+    report-rows (reportOf b) (report-well-read b) (s .second-accepted) (all-yes orderQuestions (queryOf (reportOf b)) (s .order-admitted) (9, λ (q : Query). question9 q) (here refl)) L list
     ∙ sym (direct-same a b (s .same-query))
 
 -- the engine's own list is one of these
@@ -89,7 +89,8 @@ own-order-admitted r five (inr e) = rw e (built (joinPairs (queryOf r)) five)
 pub own-order-rows : (text : Bytes) (ls : List Line) → textLines text ≡ some ls → firstNo sharedQuestions (reportOf ls) ≡ none → OwnOrder ls
     → (L : List (Blanking ℕ)) → StepList (groundOf (queryOf (reportOf ls))) L → runRows (reportOf ls) L ≡ directRows (reportOf ls)
 own-order-rows text ls read accepted own L list =
-    report-rows ls accepted (own-order-admitted (reportOf ls) (report-accepted ls accepted .five) own) L list
+    report-rows (reportOf ls) (report-well-read ls) accepted
+    (own-order-admitted (reportOf ls) (report-accepted (reportOf ls) accepted (report-well-read ls) .five) own) L list
 
 -- ---- what the two runs answer
 
@@ -101,23 +102,25 @@ pub data RunsAgree (first second : Bytes) : Type 0 where
       → RunsAgree first second
 
 pub runs-agree : (first second : Bytes) (a b : List Line) → SameQuery first second a b → RunsAgree first second
-unfolding directOutcome reportOutcome directQuestions reportQuestions reportAnswer
+unfolding directOutcome reportOutcome directQuestions reportQuestions questionsOfDirect questionsOfReport reportAnswer
 runs-agree first second a b s = cases
     (last-question sharedQuestions (11, λ (r : Report). question11Direct r) (reportOf a) (s .first-accepted))
-    (last-question (sharedQuestions ++ orderQuestions) (11, λ (r : Report). question11 r) (reportOf b)
-    (none-then sharedQuestions orderQuestions (reportOf b) (s .second-accepted) ∙ s .order-admitted))
+    (last-question (sharedQuestions ++ about queryOf orderQuestions) (11, λ (r : Report). question11 r) (reportOf b)
+    (none-then sharedQuestions (about queryOf orderQuestions) (reportOf b) (s .second-accepted)
+    ∙ first-about queryOf orderQuestions (reportOf b) ∙ s .order-admitted))
   where
-    D : List Question
-    D = sharedQuestions ++ ((11, λ (r : Report). question11Direct r) ∷ [])
+    first-report : readReport first ≡ some (reportOf a)
+    first-report = read-report first a (s .first-read)
 
-    R : List Question
-    R = sharedQuestions ++ orderQuestions ++ ((11, λ (r : Report). question11 r) ∷ [])
+    second-report : readReport second ≡ some (reportOf b)
+    second-report = read-report second b (s .second-read)
 
-    cases : (firstNo D (reportOf a) ≡ none) ⊎ (firstNo D (reportOf a) ≡ some 11)
-        → (firstNo R (reportOf b) ≡ none) ⊎ (firstNo R (reportOf b) ≡ some 11)
+    cases : (firstNo directQuestions (reportOf a) ≡ none) ⊎ (firstNo directQuestions (reportOf a) ≡ some 11)
+        → (firstNo reportQuestions (reportOf b) ≡ none) ⊎ (firstNo reportQuestions (reportOf b) ≡ some 11)
         → RunsAgree first second
-    cases (inr e) x = direct-limit (outcome-refused D directRows first a (s .first-read) 11 e)
-    cases (inl e) (inr f) = report-limit (outcome-refused R reportAnswer second b (s .second-read) 11 f)
+    cases (inr e) x = direct-limit (outcome-refused directQuestions directRows first (reportOf a) first-report 11 e)
+    cases (inl e) (inr f) = report-limit (outcome-refused reportQuestions reportAnswer second (reportOf b) second-report 11 f)
     cases (inl e) (inl f) = both-answer (directRows (reportOf a)) (reportAnswer (reportOf b))
-        (outcome-answered D directRows first a (s .first-read) e) (outcome-answered R reportAnswer second b (s .second-read) f)
+        (outcome-answered directQuestions directRows first (reportOf a) first-report e)
+        (outcome-answered reportQuestions reportAnswer second (reportOf b) second-report f)
         (demand-3-own-list first second a b s)

@@ -1,55 +1,36 @@
 -- The code of the direct reading meets its contracts, by the tests that it makes. Assumes nothing.
 use mathlib.Core.Path.{_≡_, refl, sym, ap, _∙_, subst}
-use mathlib.Core.Bool.{Bool, true, false, _&&_}
-use mathlib.Core.List.{List, [], _∷_}
+use mathlib.Core.Bool.{Bool, true, false}
+use mathlib.Core.List.{List}
 use mathlib.Core.Option.{Option, none, some}
-use Prim.Native.Nat.{ℕ, _+_, _-_, _≤_, _<_}
-use native.Mathlib.Omega.{arith}
-use lib.Dec.{leb}
+use Prim.Native.Nat.{ℕ, _≤_, _<_}
 use lib.IntN.{ℤ, pos}
 use lib.ListN.{length, replicate, length-map}
 use borrow.Author.Tests.{le-leb, lt-leb}
-use Rattle.cells.specs.BoolLaws.{not-both}
+use Rattle.cells.specs.Limits.{cellRoom, workRoom, resultRoom}
 use Rattle.cells.specs.Row.{Row}
-use Rattle.rows.specs.Rows.{ordered}
-use Rattle.rows.specs.Trees.{Database, rowsOf}
-use Rattle.plan.specs.Report.{Report, queryOf, tableCount}
-use Rattle.plan.specs.Nodes.{treeAt, joinTrees}
-use Rattle.plan.specs.Questions.{question8}
-use Rattle.plan.specs.Stored.{queryIn}
-use Rattle.plan.specs.Counted.{Counted}
-use Rattle.plan.specs.declared.query.StoredQuery.{StoredQuery}
+use Rattle.plan.specs.Asking.{firstNo, sharedQuestions}
+use Rattle.plan.specs.QueryLaws.{WellRead}
+use Rattle.plan.specs.Report.{Table, Report, queryOf, tableCount}
 use Rattle.text.specs.Bytes.{Bytes}
-use Rattle.text.specs.Reading.{reportOf, readReport}
-use Rattle.text.specs.ReadingLaws.{read-report}
-use Rattle.reader.specs.declared.read.Answer as Read
-use Rattle.reader.specs.declared.read.Outcome.the-variants as O
 use Rattle.joins.specs.Work.{workspace}
 use Rattle.joins.specs.declared.join.Joined.{Joined}
 use Rattle.joins.specs.declared.join.Joined.the-variants as J
-use Rattle.run.specs.Reading.{readOf, Readable, Handed}
-use Rattle.accept.specs.Accept.{numberIn, refusal, Accepts, Passed}
+use Rattle.run.specs.Reading.{Readable}
+use Rattle.accept.specs.Accept.{numberIn, Kept, Accepts}
+use Rattle.accept.specs.AcceptLaws.{refusal-read}
+use Rattle.accept.specs.declared.accept.Answer as Accept
+use Rattle.accept.specs.declared.accept.Outcome.the-variants as O
 use Rattle.engine.specs.Answers.{Outcome, refused, answered, directOutcome}
-use Rattle.engine.specs.Asked.{passed-early, five-yes}
+use Rattle.engine.specs.AnswerLaws.{read-well}
 use Rattle.engine.specs.Calls.{Lent, question1Direct, cleared, directAfter, DirectCall, directCall}
 use Rattle.engine.specs.Gave.{answerFor, resultFor, Gave, elevenOf, TreeRead, tablesIn, widthOf, ifRows}
-use Rattle.engine.specs.Kept.{counted, tables-kept, some-table}
-use Rattle.engine.specs.Readable.{readable}
+use Rattle.engine.specs.Kept.{readable}
 use Rattle.engine.specs.DirectLaws.{direct-early, direct-passed}
 use Rattle.engine.specs.declared.answer.Answer.{Answer}
 use Rattle.engine.specs.declared.answer.Answer.the-variants.{Rows, Refused}
 
--- ---- questions 8 and 11
-
-module _ {D : Database ℕ} {q : StoredQuery} {w : List ℕ} {b : Bool} (e : b ≡ question8 (queryIn q)) where
-  pub not-simplified : b ≡ false → TreeRead D q w w (Refused 8)
-  not-simplified f = record { refused = λ g. (refl, refl); rows = λ g. absurd (not-both g (sym e ∙ f)) }
-
-  pub tree-read : {w′ : List ℕ} {a : Answer} (j : Joined) → b ≡ true → a ≡ elevenOf j
-      → Handed (readOf D (treeAt (joinTrees (queryIn q)) (q .«table_count» + q .«join_count» - 1)))
-      (ordered (rowsOf D (treeAt (joinTrees (queryIn q)) (q .«table_count» + q .«join_count» - 1)))) (q .«table_count») w w′ j
-      → TreeRead D q w w′ a
-  tree-read j f g h = record { refused = λ k. absurd (not-both (sym e ∙ f) k); rows = λ k. (j, g, h) }
+-- ---- question 11
 
 pub eleven-rows : {k : ℕ} {j : Joined} → j ≡ J.Rows k → Rows k ≡ elevenOf j
 unfolding elevenOf
@@ -76,34 +57,31 @@ if-refused a n k e = sym (ap (λ (z : Answer). ifRows z n) e)
 
 -- ---- a text
 
-module _ {bs : Bytes} {before after : List ℤ} {x : Read.Answer} (h : Accepts bs before after x) where
+module _ {bs : Bytes} {before after : List ℤ} {x : Accept.Answer} (h : Accepts bs before after x) where
   pub text-refused : {w : List ℕ} {n : ℕ} → x .outcome ≡ O.Refused n → Gave (directOutcome bs) w w (Refused n)
   unfolding numberIn
   text-refused {w} {n} e = direct-early bs n w (sym (h .answer) ∙ ap numberIn e)
 
   module _ (e : x .outcome ≡ O.Accepted) where
-    pub text-passed : refusal bs ≡ none
-    unfolding numberIn
-    text-passed = sym (h .answer) ∙ ap numberIn e
+    abbrev kept : Kept bs before after (x .query)
+    kept = h .kept e
 
-    pub text-counted : Counted (x .query)
-    text-counted = counted (h .passed e)
+    pub text-well : WellRead (queryOf (h .kept e .report))
+    text-well = read-well bs (kept .report) (kept .read)
+
+    pub text-passed : firstNo sharedQuestions (h .kept e .report) ≡ none
+    unfolding numberIn
+    text-passed = sym (refusal-read bs (kept .report) (kept .read)) ∙ sym (h .answer) ∙ ap numberIn e
 
     pub text-readable : Readable (x .query)
-    text-readable =
-        let p = h .passed e in
-        subst Readable (sym (p .kept)) (readable p (five-yes (reportOf (p .lines)) (passed-early bs (p .lines) (p .read) text-passed)))
+    text-readable = readable (kept .stands) text-well text-passed
 
     tables-read : x .query .«table_count» ≡ tablesIn bs
-    unfolding tablesIn reportOf tableCount queryOf
+    unfolding tablesIn tableCount queryOf
     tables-read =
-        let p = h .passed e in
-        tables-kept p ∙ length-map ((reportOf (p .lines)) .tables) _ ∙ go (readReport bs) (read-report bs (p .lines) (p .read))
-      where
-        go : (o : Option Report) → o ≡ some (reportOf (h .passed e .lines)) → length ((reportOf (h .passed e .lines)) .tables)
-            ≡ (elim o as (λ z. ℕ) [ none ↦ 0 | some r ↦ length (r .tables) ])
-        go none g = let z : _≡_ {A = ℕ} 0 1 = cc in absurd (omega arith)
-        go (some r) g = let y : r ≡ reportOf (h .passed e .lines) = cc in ap (λ (z : Report). length (z .tables)) (sym y)
+        kept .stands .table-count
+        ∙ length-map (kept .report .tables) (λ (t : Table). t .columns)
+        ∙ sym (ap (λ (o : Option Report). elim o as (λ z. ℕ) [ none ↦ 0 | some r ↦ length (r .tables) ]) (kept .read))
 
     pub text-width : (a : Answer) → ifRows a (x .query .«table_count») ≡ widthOf bs a
     unfolding ifRows widthOf
@@ -111,11 +89,13 @@ module _ {bs : Bytes} {before after : List ℤ} {x : Read.Answer} (h : Accepts b
     text-width (Refused n) = refl
 
     pub text-tables : 1 ≤ x .query .«table_count»
-    text-tables = some-table (h .passed e)
+    text-tables = kept .stands .some
 
-    pub text-read : {w w′ : List ℕ} {a : Answer} → 4096 ≤ length before
+    pub text-read : {w w′ : List ℕ} {a : Answer} → cellRoom ≤ length before
         → TreeRead (workspace after (x .query .layout) (x .query .conditions)) (x .query) w w′ a → Gave (directOutcome bs) w w′ a
-    text-read {w} {w′} {a} room t = direct-passed (h .passed e) text-passed before after (h .run) room w w′ a t
+    text-read {w} {w′} {a} room t =
+        direct-passed bs (kept .read) (kept .stands) text-passed w w′ a
+        (subst (λ (cells : List ℤ). TreeRead (workspace cells (x .query .layout) (x .query .conditions)) (x .query) w w′ a) (kept .run room) t)
 
 -- ---- a call
 
@@ -131,26 +111,26 @@ module _ (bs : Bytes) (c : List ℤ) (w r : List ℕ) where
   unfolding directCall
   call-by b e = ap by (sym e)
 
-  pub short-work : length w < 16384 → record { answer = Refused 1; lent = lent c w r } ≡ directCall bs (lent c w r)
+  pub short-work : length w < workRoom → record { answer = Refused 1; lent = lent c w r } ≡ directCall bs (lent c w r)
   unfolding question1Direct
-  short-work h = call-by false (rw (lt-leb 16384 (length w) h))
+  short-work h = call-by false (rw (lt-leb workRoom (length w) h))
 
-  pub short-result : 16384 ≤ length w → length r < 2048 → record { answer = Refused 1; lent = lent c w r } ≡ directCall bs (lent c w r)
+  pub short-result : workRoom ≤ length w → length r < resultRoom → record { answer = Refused 1; lent = lent c w r } ≡ directCall bs (lent c w r)
   unfolding question1Direct
-  short-result h k = call-by false (rw (le-leb 16384 (length w) h, lt-leb 2048 (length r) k))
+  short-result h k = call-by false (rw (le-leb workRoom (length w) h, lt-leb resultRoom (length r) k))
 
-  pub short-cells : 16384 ≤ length w → 2048 ≤ length r → length c < 4096
+  pub short-cells : workRoom ≤ length w → resultRoom ≤ length r → length c < cellRoom
       → record { answer = Refused 1; lent = lent c w r } ≡ directCall bs (lent c w r)
   unfolding question1Direct
-  short-cells h k l = call-by false (rw (le-leb 16384 (length w) h, le-leb 2048 (length r) k, lt-leb 4096 (length c) l))
+  short-cells h k l = call-by false (rw (le-leb workRoom (length w) h, le-leb resultRoom (length r) k, lt-leb cellRoom (length c) l))
 
-  pub direct-done : (c′ : List ℤ) (w′ r′ : List ℕ) (a : Answer) → 16384 ≤ length w → 2048 ≤ length r → 4096 ≤ length c
+  pub direct-done : (c′ : List ℤ) (w′ r′ : List ℕ) (a : Answer) → workRoom ≤ length w → resultRoom ≤ length r → cellRoom ≤ length c
       → Gave (directOutcome bs) r r′ a → (n k : ℕ) → w′ ≡ replicate n 0 → c′ ≡ replicate k (pos 0) → n ≡ length w → k ≡ length c
       → record { answer = a; lent = lent c′ w′ r′ } ≡ directCall bs (lent c w r)
   unfolding question1Direct directAfter cleared answerFor resultFor
   direct-done c′ w′ r′ a h k l g n m e f x y =
       after (directOutcome bs) g
-      ∙ call-by true (rw (le-leb 16384 (length w) h, le-leb 2048 (length r) k, le-leb 4096 (length c) l))
+      ∙ call-by true (rw (le-leb workRoom (length w) h, le-leb resultRoom (length r) k, le-leb cellRoom (length c) l))
     where
       after : (o : Outcome (List Row)) → Gave o r r′ a → record { answer = a; lent = lent c′ w′ r′ } ≡ directAfter o (lent c w r)
       after (refused i) z = rw (z .answer, z .result, e, f, x, y)

@@ -1,42 +1,38 @@
 -- The direct reading as the code does it gives the outcome that document 01 defines. Assumes nothing.
 use mathlib.Core.Path.{_≡_, refl, sym, ap, ap₂, _∙_, subst}
 use mathlib.Core.Bool.{Bool, true, false}
-use mathlib.Core.List.{List, [], _∷_, _++_, flatMap}
-use mathlib.Core.Option.{Option, none, some}
-use Prim.Native.Nat.{ℕ, _+_, _-_, _≤_}
-use native.Mathlib.Omega.{arith}
-use lib.Dec.{T}
+use mathlib.Core.List.{List, [], _∷_}
+use mathlib.Core.Option.{none, some}
+use Prim.Native.Nat.{ℕ}
 use lib.IntN.{ℤ}
-use lib.ListN.{length, take, drop}
+use lib.ListN.{length}
 use Rattle.cells.specs.Choice.{if_then_else_}
 use Rattle.cells.specs.Row.{Row}
 use Rattle.rows.specs.Rows.{ordered}
 use Rattle.rows.specs.RowLaws.{length-ordered}
 use Rattle.rows.specs.Trees.{Database, Tree, rowsOf}
-use Rattle.plan.specs.Report.{queryOf, tableCount}
-use Rattle.plan.specs.Nodes.{treeAt, joinTrees, joinTree}
-use Rattle.plan.specs.Questions.{question8}
-use Rattle.plan.specs.Stored.{queryIn}
+use Rattle.plan.specs.Asking.{Question, firstNo, sharedQuestions, questionsOfDirect}
+use Rattle.plan.specs.AskingLaws.{none-left, none-then, asked-no, asked-yes}
+use Rattle.plan.specs.Report.{Query, Report, queryOf, tableCount}
+use Rattle.plan.specs.Nodes.{joinTree}
+use Rattle.plan.specs.QueryLaws.{WellRead}
+use Rattle.plan.specs.Stands.{Stands}
 use Rattle.plan.specs.declared.query.StoredQuery.{StoredQuery}
 use Rattle.text.specs.Bytes.{Bytes}
-use Rattle.text.specs.Reading.{tablesIn, reportOf}
-use Rattle.load.specs.Flat.{flatTables}
-use Rattle.reader.specs.Query.{storedOf, done}
-use Rattle.reader.specs.Outcome.{runAfter}
+use Rattle.text.specs.Reading.{readReport}
 use Rattle.joins.specs.Work.{workspace}
 use Rattle.joins.specs.declared.join.Joined.{Joined}
 use Rattle.joins.specs.declared.join.Joined.the-variants as J
 use Rattle.finish.specs.Flat.{flatRows}
-use Rattle.run.specs.LimitLaws.{within256, read-answer}
+use Rattle.run.specs.LimitLaws.{read-answer}
 use Rattle.run.specs.Reading.{readOf, Handed}
 use Rattle.run.specs.Runs.{directRows, question11Direct}
-use Rattle.accept.specs.Accept.{refusal, Passed}
-use Rattle.engine.specs.Answers.{Outcome, refused, answered, Question, firstNo, sharedQuestions, directQuestions, directOutcome}
-use Rattle.engine.specs.AnswerLaws.{outcome-answered, outcome-refused}
-use Rattle.engine.specs.Asked.{refused-early, passed-early, eight-no, eight-yes}
+use Rattle.accept.specs.Accept.{refusal}
+use Rattle.engine.specs.Answers.{Outcome, refused, answered, directQuestions, directOutcome}
+use Rattle.engine.specs.AnswerLaws.{read-well, outcome-answered, outcome-refused, refused-early}
 use Rattle.engine.specs.Calls.{written}
 use Rattle.engine.specs.Gave.{answerFor, resultFor, Gave, elevenOf, TreeRead}
-use Rattle.engine.specs.Kept.{here, eight-kept, tables-kept, tree-kept, run-kept}
+use Rattle.engine.specs.Kept.{tree-kept}
 use Rattle.engine.specs.Reached.{within-eleven, direct-count, direct-numbers}
 use Rattle.engine.specs.declared.answer.Answer.{Answer}
 use Rattle.engine.specs.declared.answer.Answer.the-variants.{Rows, Refused}
@@ -46,92 +42,65 @@ pub gave : {o : Outcome (List Row)} {w w′ : List ℕ} {a : Answer} (k : Outcom
     → Gave o w w′ a
 gave {o} {w} k e x y = record { answer = x ∙ ap answerFor (sym e); result = y ∙ ap (λ (z : Outcome (List Row)). resultFor z w) (sym e) }
 
--- a text that is turned down by one of questions 2 to 7
+-- what is asked behind the questions of both runs
+abbrev last : List (Question Report)
+last = (11, λ (r : Report). question11Direct r) ∷ []
+
+-- a text that a question of both runs turns down
 pub direct-early : (bs : Bytes) (n : ℕ) (w : List ℕ) → refusal bs ≡ some n → Gave (directOutcome bs) w w (Refused n)
-unfolding directOutcome directQuestions answerFor resultFor
-direct-early bs n w e = gave (refused n) (refused-early ((11, question11Direct) ∷ []) directRows bs n e) refl refl
+unfolding directOutcome directQuestions questionsOfDirect answerFor resultFor
+direct-early bs n w e = gave (refused n) (refused-early last directRows bs n e) refl refl
 
-module _ {bs : Bytes} {s : StoredQuery} (p : Passed bs s) (passed : refusal bs ≡ none) (before after : List ℤ)
-    (run : after ≡ runAfter bs before) (room : 4096 ≤ length before) (w w′ : List ℕ) (a : Answer) where
-  abbrev more : List ℤ
-  more = drop (length (flatTables (tablesIn (p .lines)))) before
+-- a text that they do not turn down, of which this is kept
+module _ (bs : Bytes) {s : StoredQuery} {cells : List ℤ} {r : Report} (read : readReport bs ≡ some r) (k : Stands s cells r)
+    (yes : firstNo sharedQuestions r ≡ none) where
+  abbrev q : Query
+  q = queryOf r
 
-  -- what is asked behind question 8
-  abbrev last : List Question
-  last = (11, question11Direct) ∷ []
+  well : WellRead q
+  well = read-well bs r read
 
-  eight-refused : question8 (here p) ≡ false → directOutcome bs ≡ refused 8
-  unfolding directOutcome directQuestions
-  eight-refused e = outcome-refused (sharedQuestions ++ last) directRows bs (p .lines) (p .read) 8
-      (eight-no last (reportOf (p .lines)) (passed-early bs (p .lines) (p .read) passed) e)
+  asked : firstNo directQuestions r ≡ firstNo last r
+  unfolding directQuestions questionsOfDirect
+  asked = none-then sharedQuestions last r yes
 
-  module _ (eight : question8 (here p) ≡ true) where
-    asked : firstNo (sharedQuestions ++ last) (reportOf (p .lines)) ≡ (if question11Direct (reportOf (p .lines)) then none else some 11)
-    unfolding firstNo
-    asked = eight-yes last (reportOf (p .lines)) (passed-early bs (p .lines) (p .read) passed) eight ∙ go (question11Direct (reportOf (p .lines)))
+  outcome-11 : question11Direct r ≡ false → directOutcome bs ≡ refused 11
+  unfolding directOutcome
+  outcome-11 e = outcome-refused directQuestions directRows bs r read 11 (asked ∙ asked-no _ _ r e)
+
+  outcome-rows : question11Direct r ≡ true → directOutcome bs ≡ answered (directRows r)
+  unfolding directOutcome
+  outcome-rows e = outcome-answered directQuestions directRows bs r read (asked ∙ asked-yes _ _ r e ∙ none-left r)
+
+  -- work space, over the run that the text leaves
+  abbrev W : Database ℕ
+  W = workspace cells (s .layout) (s .conditions)
+
+  abbrev found : List Row
+  found = ordered (rowsOf W (joinTree q))
+
+  answer-11 : readOf W (joinTree q) ≡ (if question11Direct r then J.Rows (length found) else J.TooMany)
+  answer-11 =
+      read-answer W (joinTree q)
+      ∙ ap₂ (λ (b : Bool) (n : ℕ). if b then J.Rows n else J.TooMany) (within-eleven k well yes) (sym (length-ordered (rowsOf W (joinTree q))))
+
+  module _ (w w′ : List ℕ) (a : Answer) where
+    handed : (j : Joined) → a ≡ elevenOf j → Handed (readOf W (joinTree q)) found (tableCount q) w w′ j → Gave (directOutcome bs) w w′ a
+    unfolding answerFor resultFor elevenOf written flatRows
+    handed j e h = go (question11Direct r) refl
       where
-        go : (b : Bool) → _≡_ {A = Option ℕ} (elim b [ true ↦ none | false ↦ some 11 ]) (if b then none else some 11)
-        go true = refl
-        go false = refl
-
-    outcome-11 : question11Direct (reportOf (p .lines)) ≡ false → directOutcome bs ≡ refused 11
-    unfolding directOutcome directQuestions
-    outcome-11 e = outcome-refused (sharedQuestions ++ last) directRows bs (p .lines) (p .read) 11 (asked ∙ rw e)
-
-    outcome-rows : question11Direct (reportOf (p .lines)) ≡ true → directOutcome bs ≡ answered (directRows (reportOf (p .lines)))
-    unfolding directOutcome directQuestions
-    outcome-rows e = outcome-answered (sharedQuestions ++ last) directRows bs (p .lines) (p .read) (asked ∙ rw e)
-
-    -- work space, over the run that the text leaves
-    abbrev W : Database ℕ
-    W = workspace after (s .layout) (s .conditions)
-
-    whole : W ≡ workspace (flatTables (tablesIn (p .lines)) ++ more) ((storedOf (done (p .lines))) .layout) ((storedOf (done (p .lines))) .conditions)
-    whole = ap₂ (λ (cells : List ℤ) (z : StoredQuery). workspace cells (z .layout) (z .conditions)) (run-kept p before after run room) (p .kept)
-
-    abbrev found : List Row
-    found = ordered (rowsOf W (joinTree (here p)))
-
-    answer-11 : readOf W (joinTree (here p)) ≡ (if question11Direct (reportOf (p .lines)) then J.Rows (length found) else J.TooMany)
-    answer-11 =
-        read-answer W (joinTree (here p))
-        ∙ ap₂ (λ (b : Bool) (n : ℕ). if b then J.Rows n else J.TooMany)
-        (ap (λ (D : Database ℕ). within256 D (joinTree (here p))) whole ∙ within-eleven p passed eight more)
-        (sym (length-ordered (rowsOf W (joinTree (here p)))))
-
-    count : length found ≡ length (directRows (reportOf (p .lines)))
-    count = ap (λ (D : Database ℕ). length (ordered (rowsOf D (joinTree (here p))))) whole ∙ direct-count p passed eight more
-
-    numbers : flatRows (tableCount (here p)) found ≡ flatMap (λ (row : Row). row) (directRows (reportOf (p .lines)))
-    unfolding flatRows
-    numbers =
-        ap (λ (D : Database ℕ). flatMap (take (tableCount (here p))) (ordered (rowsOf D (joinTree (here p))))) whole
-        ∙ direct-numbers p passed eight more
-
-    handed : (j : Joined) → a ≡ elevenOf j → Handed (readOf W (joinTree (here p))) found (tableCount (here p)) w w′ j → Gave (directOutcome bs) w w′ a
-    unfolding answerFor resultFor elevenOf written
-    handed j e h = go (question11Direct (reportOf (p .lines))) refl
-      where
-        go : (b : Bool) → question11Direct (reportOf (p .lines)) ≡ b → Gave (directOutcome bs) w w′ a
+        go : (b : Bool) → question11Direct r ≡ b → Gave (directOutcome bs) w w′ a
         go true f =
-            let k : j ≡ J.Rows (length found) = h .answer ∙ answer-11 ∙ rw f in
-            gave (answered (directRows (reportOf (p .lines)))) (outcome-rows f) (e ∙ ap elevenOf k ∙ ap Rows count)
-            (h .written (length found) k .1 ∙ rw numbers)
+            let x : j ≡ J.Rows (length found) = h .answer ∙ answer-11 ∙ rw f in
+            gave (answered (directRows r)) (outcome-rows f) (e ∙ ap elevenOf x ∙ ap Rows (direct-count k well yes))
+            (h .written (length found) x .1 ∙ rw (direct-numbers k well yes))
         go false f =
-            let k : j ≡ J.TooMany = h .answer ∙ answer-11 ∙ rw f in
-            gave (refused 11) (outcome-11 f) (e ∙ ap elevenOf k) (h .refused k)
+            let x : j ≡ J.TooMany = h .answer ∙ answer-11 ∙ rw f in
+            gave (refused 11) (outcome-11 f) (e ∙ ap elevenOf x) (h .refused x)
 
-  -- a text that passes them, read by the code
-  pub direct-passed : TreeRead (workspace after (s .layout) (s .conditions)) s w w′ a → Gave (directOutcome bs) w w′ a
-  unfolding answerFor resultFor
-  direct-passed t = go (question8 (queryIn s)) refl
-    where
-      go : (b : Bool) → question8 (queryIn s) ≡ b → Gave (directOutcome bs) w w′ a
-      go true e =
-          let (j, f, h) = t .rows e in
-          handed (sym (eight-kept p) ∙ e) j f
-          (subst (λ (n : ℕ). Handed (readOf (workspace after (s .layout) (s .conditions)) (joinTree (here p)))
-          (ordered (rowsOf (workspace after (s .layout) (s .conditions)) (joinTree (here p)))) n w w′ j) (tables-kept p)
-          (subst (λ (E : Tree ℕ). Handed (readOf (workspace after (s .layout) (s .conditions)) E)
-          (ordered (rowsOf (workspace after (s .layout) (s .conditions)) E)) (s .«table_count») w w′ j) (tree-kept p) h))
-      go false e = gave (refused 8) (eight-refused (sym (eight-kept p) ∙ e)) (t .refused e .0) (t .refused e .1)
+    -- the tree read by the code
+    pub direct-passed : TreeRead W s w w′ a → Gave (directOutcome bs) w w′ a
+    direct-passed t =
+        handed (t .joined) (t .answer)
+        (subst (λ (n : ℕ). Handed (readOf W (joinTree q)) found n w w′ (t .joined)) (k .table-count)
+        (subst (λ (E : Tree ℕ). Handed (readOf W E) (ordered (rowsOf W E)) (s .«table_count») w w′ (t .joined)) (tree-kept k well yes) (t .handed)))

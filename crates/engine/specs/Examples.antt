@@ -8,6 +8,7 @@ use Prim.Native.Nat.{ℕ}
 use lib.Dec.{T}
 use Rattle.cells.specs.Row.{Row}
 use Rattle.rows.specs.Nullification.{Blanking}
+use Rattle.plan.specs.Asking.{firstNo, sharedQuestions, orderQuestions}
 use Rattle.plan.specs.Report.{Report, queryOf}
 use Rattle.plan.specs.Plan.{groundOf, blankings}
 use Rattle.plan.specs.StepLists.{StepList, isStepList, step-list}
@@ -16,7 +17,6 @@ use Rattle.text.specs.Lines.{Line}
 use Rattle.text.specs.Reading.{textLines, reportOf}
 use Rattle.text.specs.QueryLines.{isOrder, queryLines}
 use Rattle.run.specs.Runs.{directRows, runRows, reportRows}
-use Rattle.engine.specs.Answers.{firstNo, sharedQuestions, orderQuestions}
 use Rattle.engine.specs.Computing.{computing}
 use Rattle.engine.specs.Trials.{text, notation}
 use Rattle.engine.specs.Demand3.{SameQuery}
@@ -80,7 +80,7 @@ turned-down : firstNo sharedQuestions (reportOf (linesIn unsimplified)) ≡ some
 unfolding computing unsimplified linesIn text notation
 turned-down = refl
 
-order-admitted : firstNo orderQuestions (reportOf (linesIn unsimplified)) ≡ none
+order-admitted : firstNo orderQuestions (queryOf (reportOf (linesIn unsimplified))) ≡ none
 unfolding computing unsimplified linesIn text notation
 order-admitted = refl
 

@@ -1,6 +1,5 @@
 -- What the code's inner routines give, before lent memory is cleared. Serves the code only: no demand cites it. Assumes nothing.
 use mathlib.Core.Path.{_≡_}
-use mathlib.Core.Bool.{Bool, true, false}
 use mathlib.Core.List.{List}
 use mathlib.Core.Option.{none, some}
 use Prim.Native.Nat.{ℕ, _+_, _-_}
@@ -9,7 +8,6 @@ use Rattle.cells.specs.Row.{Row}
 use Rattle.rows.specs.Rows.{ordered}
 use Rattle.rows.specs.Trees.{Database, rowsOf}
 use Rattle.plan.specs.Nodes.{treeAt, joinTrees}
-use Rattle.plan.specs.Questions.{question8}
 use Rattle.plan.specs.Stored.{queryIn}
 use Rattle.plan.specs.declared.query.StoredQuery.{StoredQuery}
 use Rattle.text.specs.Bytes.{Bytes}
@@ -42,12 +40,12 @@ unfoldable pub elevenOf : Joined → Answer
 elevenOf (J.Rows k) = Rows k
 elevenOf J.TooMany = Refused 11
 
--- questions 8 and 11 of the tree of a stored query, and its rows
+-- question 11 of the tree of a stored query, and its rows
 pub record TreeRead (D : Database ℕ) (q : StoredQuery) (w w′ : List ℕ) (a : Answer) : Type 0 where
-  pub refused : question8 (queryIn q) ≡ false → (a ≡ Refused 8) × (w′ ≡ w)
-  pub rows : question8 (queryIn q) ≡ true → (j : Joined) × (a ≡ elevenOf j)
-      × Handed (readOf D (treeAt (joinTrees (queryIn q)) (q .«table_count» + q .«join_count» - 1)))
-      (ordered (rowsOf D (treeAt (joinTrees (queryIn q)) (q .«table_count» + q .«join_count» - 1)))) (q .«table_count») w w′ j
+  pub joined : Joined
+  pub answer : a ≡ elevenOf joined
+  pub handed : Handed (readOf D (treeAt (joinTrees (queryIn q)) (q .«table_count» + q .«join_count» - 1)))
+      (ordered (rowsOf D (treeAt (joinTrees (queryIn q)) (q .«table_count» + q .«join_count» - 1)))) (q .«table_count») w w′ joined
 
 -- how many tables a text has
 unfoldable pub tablesIn : Bytes → ℕ

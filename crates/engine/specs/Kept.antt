@@ -1,155 +1,110 @@
--- What is kept of a text that passes questions 2 to 7: its query, its tree and its cells. Assumes nothing.
+-- A stored query that stands for a report which no question of both runs turns down: its counts, what the direct reading takes, and its
+-- tree; the whole query where its order is admitted too. Assumes nothing.
 use mathlib.Core.Path.{_≡_, refl, sym, ap, ap₂, _∙_, subst}
-use mathlib.Core.Bool.{Bool, true, false, not, _&&_}
-use mathlib.Core.List.{List, [], _∷_, _++_, map}
-use mathlib.Core.Option.{Option, none, some}
-use Prim.Native.Nat.{ℕ, zero, suc, _+_, _-_, _<_, _≤_}
-use native.Mathlib.Nat.{zero-add}
+use mathlib.Core.Bool.{_&&_}
+use mathlib.Core.List.{List, map}
+use mathlib.Core.Option.{none}
+use Prim.Native.Nat.{ℕ, suc, _+_, _-_, _<_, _≤_}
 use native.Mathlib.Omega.{arith}
-use lib.Dec.{leb}
+use lib.Dec.{T, leb, eqb}
 use lib.IntN.{ℤ}
-use lib.ListN.{length, drop, take, length-append, length-map}
-use lib.Seq.{take-all, sets-eq}
-use Rattle.cells.specs.Choice.{if_then_else_}
-use Rattle.cells.specs.Condition.{namesOf}
-use Rattle.rows.specs.Lists.{all, any}
-use Rattle.rows.specs.ListLaws.{length-range}
+use lib.ListN.{length, getD, length-map}
+use lib.Seq.{take-all}
+use mir.Facts.{and-yes}
+use Rattle.cells.specs.BoolLaws.{is-true}
+use Rattle.cells.specs.Limits.{mostJoins, mostPairs, mostWritten}
+use Rattle.rows.specs.ListLaws.{here, length-range}
 use Rattle.rows.specs.Trees.{Tree, leaf}
-use Rattle.plan.specs.Report.{Table, Join, Query, queryOf, tableCount, tableNumbers, conditionAt, namedBy, joinPairs}
+use Rattle.plan.specs.Asking.{firstNo, sharedQuestions, orderQuestions}
+use Rattle.plan.specs.AskingLaws.{all-yes}
+use Rattle.plan.specs.Counted.{Counted}
 use Rattle.plan.specs.Nodes.{treeOf, treesOf, treeAt, lastTree, joinTrees, joinTree}
 use Rattle.plan.specs.NodeLaws.{grown-length}
-use Rattle.plan.specs.Sets.{blanksLeft, blanksRight}
-use Rattle.plan.specs.Stored.{queryIn}
-use Rattle.plan.specs.Counted.{Counted}
-use Rattle.plan.specs.Questions.{namesRightSide, question5, question8, question9}
+use Rattle.plan.specs.NodeWords.{kept-at}
+use Rattle.plan.specs.QueryLaws.{WellRead, Accepted, query-matched, query-built}
+use Rattle.plan.specs.Questions.{lowerSides, sidesOf, noneTwice, wellBuilt, question5, question6, question9}
+use Rattle.plan.specs.Report.{Join, Query, Report, queryOf, tableCount, tableNumbers, joinPairs}
+use Rattle.plan.specs.Stands.{Stands}
+use Rattle.plan.specs.Stored.{joinIn, queryIn}
 use Rattle.plan.specs.declared.query.StoredQuery.{StoredQuery}
-use Rattle.text.specs.Bytes.{Bytes}
-use Rattle.text.specs.Lines.{Line}
-use Rattle.text.specs.Reading.{tablesIn, textLines, reportOf}
-use Rattle.plan.specs.TableQuestions.{cellsInTables, question3, question4}
-use Rattle.load.specs.Cells.{laid, textCells}
-use Rattle.load.specs.Flat.{flatRows, flatTables, text-cells}
-use Rattle.questions.specs.Kept.{all-same}
-use Rattle.questions.specs.Whole.{Keeps, whole-nine}
-use Rattle.reader.specs.Query.{storedOf, done}
-use Rattle.reader.specs.Outcome.{TextOutcome, turnedDown, says, readOutcome, outcomeOf, linesOutcome, runAfter, run-accepted}
-use Rattle.reader.specs.Whole.{table-count}
-use Rattle.reader.specs.Looked.{flat-length}
-use Rattle.accept.specs.Accept.{Passed}
-use Rattle.accept.specs.AcceptLaws.{fits-tables, keeps, passed-tables}
-use Rattle.engine.specs.Readable.{few-cells}
+use Rattle.questions.specs.Kept.{room-of}
+use Rattle.questions.specs.Whole.{whole-five, whole-six, whole-trees, whole-nine, whole-query}
+use Rattle.run.specs.Reading.{Readable, joinAt, noJoin}
+use Rattle.run.specs.StepRows.{lower-sides}
+use Rattle.engine.specs.AnswerLaws.{three-yes, report-accepted, rows-limit}
 
--- ---- queries that differ in their P lines only
+module _ {s : StoredQuery} {cells : List ℤ} {r : Report} (k : Stands s cells r) (well : WellRead (queryOf r)) (yes : firstNo sharedQuestions r ≡ none) where
+  abbrev q : Query
+  q = queryOf r
 
-module _ (q r : Query) (c : q .columns ≡ r .columns) (j : q .joins ≡ r .joins) where
-  pub trees-same : joinTrees q ≡ joinTrees r
-  unfolding joinTrees treesOf tableNumbers tableCount
-  trees-same = rw (c, j)
+  ok : Accepted q
+  ok = report-accepted r yes well
 
-  module _ (d : q .conditions ≡ r .conditions) where
-    named-same : (C : List ℕ) (i : ℕ) → namesRightSide q C i ≡ namesRightSide r C i
-    unfolding namesRightSide namedBy conditionAt
-    named-same C i = rw (trees-same, d)
+  few-joins : s .«join_count» ≤ mostJoins
+  few-joins = room-of (s .«join_count») mostJoins (question5 (queryIn s)) (whole-five k ∙ is-true _ (ok .five))
 
-    abbrev fits : Query → Join → Bool
-    fits z x =
-        not (blanksLeft (x .kind) && namesRightSide z (x .conditions) (x .left))
-        && not (blanksRight (x .kind) && namesRightSide z (x .conditions) (x .right))
-
-    pub eight-same : question8 q ≡ question8 r
-    unfolding question8
-    eight-same =
-        all-same (fits q) (fits r) (q .joins)
-        (λ (x : Join). rw (named-same (x .conditions) (x .left), named-same (x .conditions) (x .right)))
-        ∙ ap (all (fits r)) j
-
--- queries that have the same lines are the same
-same-query : (q r : Query) → q .columns ≡ r .columns → q .joins ≡ r .joins → q .conditions ≡ r .conditions → q .pairs ≡ r .pairs → q ≡ r
-same-query q r c j d e =
-    let x : record { columns = q .columns; joins = q .joins; conditions = q .conditions; pairs = q .pairs } ≡ r = rw (c, j, d, e) in x
-
--- ---- a text
-
-module _ {bs : Bytes} {s : StoredQuery} (p : Passed bs s) where
-  abbrev ls : List Line
-  ls = p .lines
-
-  -- the report's query
-  abbrev pub here : Query
-  here = queryOf (reportOf (p .lines))
-
-  kept : Keeps s here
-  kept = rw (p .kept) (keeps ls (fits-tables ls (p .fits) .1))
-
-  pub same-columns : queryIn s .columns ≡ here .columns
-  same-columns = kept .columns
-
-  pub same-joins : queryIn s .joins ≡ here .joins
-  same-joins = kept .joins ∙ take-all 7 (here .joins) (omega (arith, kept .join-count, p .joins))
-
-  pub same-conditions : queryIn s .conditions ≡ here .conditions
-  same-conditions = kept .conditions ∙ take-all 64 (here .conditions) (omega (arith, kept .condition-count, p .conditions))
-
-  pub same-pairs : s .«pair_count» ≤ 7 → queryIn s .pairs ≡ here .pairs
-  same-pairs h = kept .pairs ∙ take-all 7 (here .pairs) (omega (arith, kept .pair-count, h))
-
-  -- the whole query, where no P line was left out
-  pub query-kept : s .«pair_count» ≤ 7 → queryIn s ≡ here
-  query-kept h = same-query (queryIn s) here same-columns same-joins same-conditions (same-pairs h)
+  few-written : s .«condition_count» ≤ mostWritten
+  few-written = room-of (s .«condition_count») mostWritten (question6 (queryIn s)) (whole-six k few-joins ∙ is-true _ (ok .six))
 
   pub counted : Counted s
-  counted = record { tables = passed-tables p; joins = p .joins; conditions = p .conditions }
+  counted = record { tables = k .few; joins = few-joins; conditions = omega (arith, few-written) }
 
-  pub five-kept : question5 (queryIn s) ≡ question5 here
-  unfolding question5 joinPairs tableCount
-  five-kept = rw (same-columns, same-joins)
+  pub five-kept : T (question5 (queryIn s))
+  five-kept = and-yes (leb (s .«join_count») mostJoins) (question5 (queryIn s)) (subst T (sym (whole-five k)) (ok .five)) .1
 
-  pub eight-kept : question8 (queryIn s) ≡ question8 here
-  eight-kept = eight-same (queryIn s) here same-columns same-joins same-conditions
+  -- ---- what the direct reading takes
 
-  pub tables-kept : s .«table_count» ≡ tableCount here
-  tables-kept = ap (λ (z : StoredQuery). z .«table_count») (p .kept) ∙ table-count ls
+  -- a join's sides are lower nodes
+  sides : (i : ℕ) → i < s .«join_count» → (joinAt s i .left < s .«table_count» + i) × (joinAt s i .right < s .«table_count» + i)
+  unfolding wellBuilt joinAt joinIn queryIn
+  sides i h =
+      let n : ℕ = tableCount q in
+      let (x, _) = and-yes (eqb (suc (length (joinPairs q))) n && lowerSides n (joinPairs q)) (noneTwice (sidesOf (joinPairs q))) (query-built q ok) in
+      let (_, lower) = and-yes (eqb (suc (length (joinPairs q))) n) (lowerSides n (joinPairs q)) x in
+      let same : queryIn s .joins ≡ q .joins = k .joins ∙ take-all mostJoins (q .joins) (omega (arith, k .join-count, few-joins)) in
+      let at : getD (q .joins) i (joinIn noJoin) ≡ joinIn (getD (s .joins) i noJoin) =
+      ap (λ (js : List Join). getD js i (joinIn noJoin)) (sym same)
+      ∙ kept-at joinIn (s .«join_count») (s .joins) i noJoin (joinIn noJoin) h (omega (arith, few-joins, k .join-room)) in
+      rw (k .table-count) (subst (λ (j : Join). (j .left < n + i) × (j .right < n + i)) at
+      (lower-sides (query-matched q ok) n lower i (joinIn noJoin) (omega (arith, k .join-count, h))))
 
-  pub nine-kept : (leb (s .«pair_count») 7 && question9 (queryIn s)) ≡ question9 here
-  nine-kept = whole-nine kept (subst (λ (n : ℕ). n ≤ 8) tables-kept (passed-tables p))
-
-  pub some-table : 1 ≤ s .«table_count»
-  unfolding tableCount queryOf reportOf
-  some-table =
-      let n : tableCount here ≡ length (tablesIn ls) = length-map (tablesIn ls) (λ (t : Table). t .columns) in
-      omega (arith, tables-kept, n, fits-tables ls (p .fits) .0)
+  pub readable : Readable s
+  unfolding tableCount joinAt
+  readable = record {
+    tables = k .few;
+    width = ap length (k .columns) ∙ sym (k .table-count);
+    joins = few-joins;
+    room = omega (arith, few-joins, k .join-room);
+    conditions = counted .conditions;
+    rows = λ t h. rw (k .rows t h) (rows-limit r (three-yes r yes) t);
+    left = λ i h. sides i h .0;
+    right = λ i h. sides i h .1;
+    ranges = λ i h. k .ranges few-joins i h noJoin;
+  }
 
   -- ---- the tree
 
-  nodes-kept : length (joinTrees here) ≡ s .«table_count» + s .«join_count»
+  nodes-kept : length (joinTrees q) ≡ s .«table_count» + s .«join_count»
   unfolding joinTrees treesOf tableNumbers
   nodes-kept =
-      let a : length {A = Tree ℕ} (map leaf (tableNumbers here)) ≡ tableCount here = length-map (tableNumbers here) leaf ∙ length-range 0 (tableCount here) in
-      grown-length treeOf (map leaf (tableNumbers here)) (here .joins) ∙ ap₂ _+_ (a ∙ sym tables-kept) (sym (kept .join-count))
+      let a : length {A = Tree ℕ} (map leaf (tableNumbers q)) ≡ tableCount q = length-map (tableNumbers q) leaf ∙ length-range 0 (tableCount q) in
+      grown-length treeOf (map leaf (tableNumbers q)) (q .joins) ∙ ap₂ _+_ (a ∙ sym (k .table-count)) (sym (k .join-count))
 
-  pub tree-kept : treeAt (joinTrees (queryIn s)) (s .«table_count» + s .«join_count» - 1) ≡ joinTree here
+  pub tree-kept : treeAt (joinTrees (queryIn s)) (s .«table_count» + s .«join_count» - 1) ≡ joinTree q
   unfolding joinTree lastTree
-  tree-kept = ap₂ treeAt (trees-same (queryIn s) here same-columns same-joins) (ap (λ (n : ℕ). n - 1) (sym nodes-kept))
+  tree-kept = ap₂ treeAt (whole-trees k few-joins) (ap (λ (n : ℕ). n - 1) (sym nodes-kept))
 
-  -- ---- the cells
+  -- ---- the order, where what is asked about it is answered yes
 
-  says-kept : says (storedOf (done ls)) ≡ readOutcome bs
-  unfolding readOutcome outcomeOf linesOutcome
-  says-kept = sym (ap outcomeOf (p .read) ∙ rw (p .fits, p .even))
+  module _ (order : firstNo orderQuestions q ≡ none) where
+    pub nine-yes : T (question9 q)
+    unfolding orderQuestions
+    nine-yes = all-yes orderQuestions q order (9, λ (z : Query). question9 z) (here refl)
 
-  tables-length : (ts : List Table) → length (flatTables ts) ≡ cellsInTables ts
-  unfolding flatTables cellsInTables
-  tables-length [] = refl
-  tables-length (t ∷ ts) = length-append (flatRows (t .rows)) (flatTables ts) ∙ ap₂ _+_ (flat-length (t .rows)) (tables-length ts)
+    pub nine-kept : T (question9 (queryIn s))
+    nine-kept = and-yes (leb (s .«pair_count») mostPairs) (question9 (queryIn s)) (subst T (sym (whole-nine k)) nine-yes) .1
 
-  -- the run that the text leaves: its cells, and what was there behind them
-  pub run-kept : (before after : List ℤ) → after ≡ runAfter bs before → 4096 ≤ length before
-      → after ≡ flatTables (tablesIn ls) ++ drop (length (flatTables (tablesIn ls))) before
-  unfolding laid
-  run-kept before after e h =
-      let cells = flatTables (tablesIn ls) in
-      let l : length cells ≤ 4096 = rw (tables-length (tablesIn ls)) (few-cells ls (p .fits)) in
-      e ∙ sym (run-accepted bs before (storedOf (done ls)) says-kept)
-      ∙ ap (λ (zs : List ℤ). laid before 0 zs) (text-cells bs ls (p .read))
-      ∙ sets-eq cells before 0 (omega arith)
-      ∙ rw (zero-add (length cells))
+    -- nothing was left out
+    pub query-kept : queryIn s ≡ q
+    query-kept =
+        whole-query k few-joins (counted .conditions) (room-of (s .«pair_count») mostPairs (question9 (queryIn s)) (whole-nine k ∙ is-true _ nine-yes))

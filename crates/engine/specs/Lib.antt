@@ -11,8 +11,6 @@ pub mod CallLaws
 pub mod Demand3Calls
 pub mod Demand2
 pub mod Seen
-pub mod Readable
-pub mod Asked
 pub mod Kept
 pub mod Reached
 pub mod Gave

@@ -1,17 +1,15 @@
 -- What the code's inner routines over a plan give. Serves the code only: no demand cites it. Assumes nothing.
 use mathlib.Core.Path.{_≡_}
-use mathlib.Core.Bool.{Bool, true, false, _&&_}
-use mathlib.Core.List.{List, [], _++_}
-use Prim.Native.Nat.{ℕ, zero, suc, _+_, _-_}
-use lib.Dec.{leb}
-use lib.ListN.{length, getD, drop, replicate}
+use mathlib.Core.List.{List, []}
+use Prim.Native.Nat.{ℕ, zero, suc, _-_}
+use lib.ListN.{length, getD, replicate}
+use Rattle.cells.specs.Limits.{areas}
 use Rattle.rows.specs.Trees.{Database}
 use Rattle.plan.specs.Report.{joinOrder}
 use Rattle.plan.specs.Facts.{noFacts}
 use Rattle.plan.specs.Sets.{blankingSets}
 use Rattle.plan.specs.Plan.{groundOf, planTrees, blankings}
 use Rattle.plan.specs.Steps.{stepsOf}
-use Rattle.plan.specs.Questions.{question8, question9, question10}
 use Rattle.plan.specs.Stored.{queryIn}
 use Rattle.plan.specs.StepWords.{listed, withRows}
 use Rattle.plan.specs.Words.{setWords}
@@ -43,21 +41,14 @@ handedOver q sets s counts (J.Rows k) = record {
 }
 handedOver q sets s counts J.TooMany = turnedDown 11
 
-module _ (D : Database ℕ) (q : StoredQuery) where
-  -- the plan run
-  pub record StepsRun (sets w w′ : List ℕ) (r : Planned) : Type 0 where
-    pub counts : List ℕ
-    pub joined : Joined
-    pub long : length counts ≡ 8
-    pub ran : PlanRan D (planTrees (groundOf (queryIn q))) (q .«table_count») (q .«table_count» - 1) (blankings (groundOf (queryIn q))) counts w w′ joined
-    pub handed : r ≡ handedOver q sets (listed (stepsOf (groundOf (queryIn q)) (replicate (length (joinOrder (queryIn q))) 0))) counts joined
-
-  -- questions 9, 10 and 11
-  pub record QueryRun (w w′ : List ℕ) (r : Planned) : Type 0 where
-    pub nine : (leb (q .«pair_count») 7 && question9 (queryIn q)) ≡ false → (r ≡ turnedDown 9) × (w′ ≡ w)
-    pub ten : (leb (q .«pair_count») 7 && question9 (queryIn q)) ≡ true → question10 (queryIn q) ≡ false → (r ≡ turnedDown 10) × (w′ ≡ w)
-    pub rows : (leb (q .«pair_count») 7 && question9 (queryIn q)) ≡ true → question10 (queryIn q) ≡ true
-        → StepsRun (setWords (blankingSets (queryIn q))) w w′ r
+-- the plan of a query run
+pub record StepsRun (D : Database ℕ) (q : StoredQuery) (w w′ : List ℕ) (r : Planned) : Type 0 where
+  pub counts : List ℕ
+  pub joined : Joined
+  pub long : length counts ≡ areas
+  pub ran : PlanRan D (planTrees (groundOf (queryIn q))) (q .«table_count») (q .«table_count» - 1) (blankings (groundOf (queryIn q))) counts w w′ joined
+  pub handed : r ≡ handedOver q (setWords (blankingSets (queryIn q))) (listed (stepsOf (groundOf (queryIn q)) (replicate (length (joinOrder (queryIn q))) 0)))
+      counts joined
 
 -- ---- an outcome
 
@@ -79,8 +70,3 @@ resultAfter (answered a) w = written (a .rows) w
 pub record Reported (o : Outcome ReportAnswer) (w w′ : List ℕ) (r : Planned) : Type 0 where
   pub planned : r ≡ plannedFor o
   pub result : w′ ≡ resultAfter o w
-
--- question 8, then those behind it
-pub record QueryAsked (D : Database ℕ) (q : StoredQuery) (w w′ : List ℕ) (r : Planned) : Type 0 where
-  pub eight : question8 (queryIn q) ≡ false → (r ≡ turnedDown 8) × (w′ ≡ w)
-  pub rest : question8 (queryIn q) ≡ true → QueryRun D q w w′ r

@@ -1,17 +1,18 @@
 -- What the code makes ready before a run and hands over after it. Serves the code only: no demand cites it. Assumes nothing.
 use mathlib.Core.Path.{_≡_}
-use mathlib.Core.Bool.{Bool, true, false, _&&_}
+use mathlib.Core.Bool.{Bool, _&&_}
 use mathlib.Core.List.{List}
-use Prim.Native.Nat.{ℕ, _≤_}
+use Prim.Native.Nat.{ℕ, _≤_, _<_}
 use lib.Dec.{leb}
 use lib.IntN.{ℤ, pos}
 use lib.ListN.{length, replicate}
+use Rattle.cells.specs.Limits.{mostTables, cellRoom, areas, workRoom, resultRoom, stepListRoom}
 use Rattle.plan.specs.Facts.{noFacts}
 use Rattle.plan.specs.declared.step.Step.{Step}
 use Rattle.text.specs.Bytes.{Bytes}
-use Rattle.reader.specs.declared.read.Answer as Read
-use Rattle.reader.specs.declared.read.Outcome.the-variants as O
 use Rattle.accept.specs.Accept.{Accepts}
+use Rattle.accept.specs.declared.accept.Answer as Accept
+use Rattle.accept.specs.declared.accept.Outcome.the-variants as O
 use Rattle.joins.specs.declared.join.Joined.{Joined}
 use Rattle.runner.specs.State.{Ended}
 use Rattle.runner.specs.declared.state.Run.{Run}
@@ -26,7 +27,7 @@ use Rattle.engine.specs.declared.planned.Reply.{Reply}
 
 -- by the lengths of the cell run, the work buffer, the result buffer and the step list
 unfoldable pub enoughLent : ℕ → ℕ → ℕ → ℕ → Bool
-enoughLent cells work result steps = (leb 16384 work && leb 2048 result && leb 4096 cells) && leb 16 steps
+enoughLent cells work result steps = (leb workRoom work && leb resultRoom result && leb cellRoom cells) && leb stepListRoom steps
 
 -- a refusal, as it is answered beside a lent list
 unfoldable pub refusedReply : ℕ → Reply
@@ -36,19 +37,19 @@ refusedReply n = record { answer = Refused n; facts = noFacts; count = 0 }
 
 -- questions 2 to 10 of a text, with the cell run before and after
 pub data Prepares (bs : Bytes) (before after : List ℤ) (x : Prepared) : Type 0 where
-  away : {a : Read.Answer} {n : ℕ} → Accepts bs before after a → a .outcome ≡ O.Refused n → x ≡ turnedAway (a .query) n → Prepares bs before after x
-  passed : {a : Read.Answer} → Accepts bs before after a → a .outcome ≡ O.Accepted → QueryPlanned (a .query) x → Prepares bs before after x
+  away : {a : Accept.Answer} {n : ℕ} → Accepts bs before after a → a .outcome ≡ O.Refused n → x ≡ turnedAway (a .query) n → Prepares bs before after x
+  passed : {a : Accept.Answer} → Accepts bs before after a → a .outcome ≡ O.Accepted → QueryPlanned (a .query) x → Prepares bs before after x
 
 -- ---- after a run
 
 -- the count of tables, where there is a run
 abbrev pub Within : Prepared → Type 0
-Within p = p .run .refused ≡ false → (1 ≤ p .query .«table_count») × (p .query .«table_count» ≤ 8)
+Within p = p .number ≤ 0 → (1 ≤ p .query .«table_count») × (p .query .«table_count» ≤ mostTables)
 
 -- what is handed over for what was made ready, p, and the state at the end, r; w is the work buffer, v and v′ the result before and after
 pub record Ends (p : Prepared) (r : Run) (w v v′ : List ℕ) (x : Planned) : Type 0 where
-  pub refused : p .run .refused ≡ true → (x ≡ turnedDown (p .number)) × (v′ ≡ v)
-  pub rows : p .run .refused ≡ false → (length (r .counts) ≡ 8)
+  pub refused : 0 < p .number → (x ≡ turnedDown (p .number)) × (v′ ≡ v)
+  pub rows : p .number ≡ 0 → (length (r .counts) ≡ areas)
       × ((a : Joined) × Ended (p .query) r w v v′ a × (x ≡ handedOver (p .query) (p .sets) (p .plan) (r .counts) a))
 
 -- what is handed over, as it is answered beside a lent list

@@ -1,27 +1,26 @@
 // The direct reading of a text: document 01, "The tree read directly".
 use crate::answer::Answer;
+use accept::accept::Outcome;
+use cells::limits::CELL_ROOM;
+use cells::limits::RESULT_ROOM;
+use cells::limits::WORK_ROOM;
 use joins::join::Joined;
 use plan::query::StoredQuery;
-use reader::read::Outcome;
 ghost use mathlib.Core.Path.{_≡_};
-ghost use mathlib.Core.Bool.{true, false};
 ghost use Prim.Native.Nat.{_≤_};
 ghost use lib.ListN.{length};
-ghost use Rattle.plan.specs.Counted.{Counted};
+ghost use Rattle.cells.specs.Limits.{cellRoom, workRoom, resultRoom};
 ghost use Rattle.joins.specs.Work.{workspace};
 ghost use Rattle.run.specs.Reading.{Readable};
 ghost use Rattle.engine.specs.Answers.{directOutcome};
 ghost use Rattle.engine.specs.Calls.{directCall};
 ghost use Rattle.engine.specs.Gave.{Gave, TreeRead, widthOf, ifRows};
 
-// Questions 8 and 11 of a query, and its rows.
+// Question 11 of a query, and its rows.
 fn read_tree(q: StoredQuery, cells: &[i32], work: &mut [u16], result: &mut [u16]) -> Answer
-    requires { ⌜ Counted q × Readable q × (1 ≤ q .«table_count») × (16384 ≤ length (now work)) × (2048 ≤ length (now result)) ⌝ }
+    requires { ⌜ Readable q × (1 ≤ q .«table_count») × (workRoom ≤ length (now work)) × (resultRoom ≤ length (now result)) ⌝ }
     ensures { λ r. ⌜ TreeRead (workspace (now (cells .entry)) (q .layout) (q .conditions)) q (now (result .entry)) (now (result .exit)) r ⌝ }
 {
-    if !plan::simplified::is_simplified(q) {
-        return Answer::Refused(8);
-    }
     let r = run::direct::direct(cells, q, work, result);
     match r {
         Joined::Rows(n) => Answer::Rows(n),
@@ -47,7 +46,7 @@ pub struct Found {
 
 // Questions 2 to 8 and 11 of a text, and its rows. The cell run and the work buffer are left as they come.
 fn read_text(text: &[u8], cells: &mut [i32], work: &mut [u16], result: &mut [u16]) -> Found
-    requires { ⌜ (4096 ≤ length (now cells)) × (16384 ≤ length (now work)) × (2048 ≤ length (now result)) ⌝ }
+    requires { ⌜ (cellRoom ≤ length (now cells)) × (workRoom ≤ length (now work)) × (resultRoom ≤ length (now result)) ⌝ }
     ensures { λ r. ⌜ Gave (directOutcome (now (text .entry))) (now (result .entry)) (now (result .exit)) (r .answer) × (r .tables ≡ widthOf (now (text .entry)) (r .answer)) ⌝ }
 {
     let a = accept::accept::accept(text, cells);
@@ -74,19 +73,19 @@ pub fn find(text: &[u8], cells: &mut [i32], work: &mut [u16], result: &mut [u16]
         ≡ directCall (now (text .entry)) (record { cells = now (cells .entry); work = now (work .entry); result = now (result .entry) }))
         × (r .tables ≡ widthOf (now (text .entry)) (r .answer)) ⌝ }
 {
-    if work.len() < 16384 {
+    if work.len() < WORK_ROOM {
         return Found {
             answer: Answer::Refused(1),
             tables: 0,
         };
     }
-    if result.len() < 2048 {
+    if result.len() < RESULT_ROOM {
         return Found {
             answer: Answer::Refused(1),
             tables: 0,
         };
     }
-    if cells.len() < 4096 {
+    if cells.len() < CELL_ROOM {
         return Found {
             answer: Answer::Refused(1),
             tables: 0,

@@ -1,5 +1,6 @@
 // What a run hands over: document 01, "The plan".
 use crate::answer::Answer;
+use cells::limits::AREAS;
 use cells::limits::STEPS;
 use joins::join::Joined;
 use plan::facts;
@@ -10,6 +11,7 @@ use ready::prepared::Prepared;
 use runner::state::Run;
 ghost use mathlib.Core.Path.{_≡_};
 ghost use Prim.Native.Nat.{_≤_};
+ghost use Rattle.cells.specs.Limits.{areas};
 ghost use Rattle.engine.specs.Planning.{turnedDown, withCounts};
 ghost use Rattle.engine.specs.Preparing.{Within, Ends, Concludes, replied};
 
@@ -48,8 +50,8 @@ pub fn turned_down(number: u8) -> Planned
 }
 
 // The plan with the count of rows of each of its pairs.
-fn with_counts(list: StepList, counts: [u16; 8], pairs: usize) -> StepList
-    requires { ⌜ pairs ≤ 8 ⌝ }
+fn with_counts(list: StepList, counts: [u16; AREAS], pairs: usize) -> StepList
+    requires { ⌜ pairs ≤ areas ⌝ }
     ensures { λ r. ⌜ r ≡ withCounts list counts pairs ⌝ }
 {
     let mut s = list;
@@ -68,8 +70,7 @@ fn hand_over(work: &[u16], result: &mut [u16], p: Prepared, r: Run) -> Planned
     requires { ⌜ Within p ⌝ }
     ensures { λ x. ⌜ Ends p r (now (work .entry)) (now (result .entry)) (now (result .exit)) x ⌝ }
 {
-    let start = p.run;
-    if start.refused {
+    if 0 < p.number {
         return turned_down(p.number);
     }
     let q = p.query;

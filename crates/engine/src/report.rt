@@ -4,7 +4,11 @@ use crate::planned;
 use crate::planned::Planned;
 use crate::planned::Reply;
 use crate::prepare;
+use cells::limits::CELL_ROOM;
+use cells::limits::RESULT_ROOM;
+use cells::limits::STEP_ROOM;
 use cells::limits::STEPS;
+use cells::limits::WORK_ROOM;
 use plan::facts;
 use plan::step::Step;
 use plan::steps::StepList;
@@ -12,6 +16,7 @@ use ready::prepared;
 ghost use mathlib.Core.Path.{_≡_};
 ghost use mathlib.Core.Bool.{not};
 ghost use lib.ListN.{replicate};
+ghost use Rattle.cells.specs.Limits.{mostSteps};
 ghost use Rattle.plan.specs.Steps.{zeroStep};
 ghost use Rattle.engine.specs.Calls.{reportCall};
 ghost use Rattle.engine.specs.Preparing.{enoughLent, refusedReply, byValue};
@@ -20,16 +25,16 @@ ghost use Rattle.engine.specs.Preparing.{enoughLent, refusedReply, byVal
 pub fn too_little(cells: usize, work: usize, result: usize, steps: usize) -> bool
     ensures { λ r. ⌜ r ≡ not (enoughLent cells work result steps) ⌝ }
 {
-    if work < 16384 {
+    if work < WORK_ROOM {
         return true;
     }
-    if result < 2048 {
+    if result < RESULT_ROOM {
         return true;
     }
-    if cells < 4096 {
+    if cells < CELL_ROOM {
         return true;
     }
-    steps < STEPS
+    steps < STEP_ROOM
 }
 
 // A refusal.
@@ -68,7 +73,7 @@ pub fn report_into(
     let p = prepare::prepare(text, cells);
     let list = prepared::plan_of(p);
     let query = prepared::query_of(p);
-    let start = prepared::start_of(p);
+    let start = prepare::start_of(p);
     runner::list::put_plan(steps, list);
     let r = runner::over::run_over(steps, cells, work, query, start);
     let h = planned::conclude(cells, work, result, p, r);
@@ -105,7 +110,7 @@ pub fn report(text: &[u8], cells: &mut [i32], work: &mut [u16], result: &mut [u1
       steps = r .plan .steps;
     }
         ≡ reportCall (now (text .entry)) (record { cells = now (cells .entry); work = now (work .entry); result = now (result .entry) })
-        (replicate 16 zeroStep) ⌝ }
+        (replicate mostSteps zeroStep) ⌝ }
 {
     let zero = Step {
         kind: 0,

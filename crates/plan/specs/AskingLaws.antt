@@ -42,6 +42,11 @@ one-number true n k x ns h e = there (h e)
 one-number false n k x ns h e = here (let z : n ≡ k = cc in sym z)
 
 module _ {A : Type 0} where
+  -- no question is left
+  pub none-left : (a : A) → firstNo [] a ≡ none
+  unfolding firstNo
+  none-left a = refl
+
   -- the first no of an append
   pub first-append : (qs ps : List (Question A)) (a : A) → firstNo (qs ++ ps) a ≡ thenNo (firstNo qs a) (firstNo ps a)
   unfolding firstNo thenNo

@@ -13,6 +13,7 @@ pub mod AskingLaws
 pub mod Bits
 pub mod BitLaws
 pub mod Counted
+pub mod Stands
 pub mod Words
 pub mod WordLaws
 pub mod JoinLaws

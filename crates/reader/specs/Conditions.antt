@@ -1,6 +1,6 @@
 -- Every condition number has the same truth on what is kept of a text as on the report; past the last one there is none that is true.
 -- Assumes nothing.
-use mathlib.Core.Path.{_≡_, refl, sym, ap, ap₂, _∙_}
+use mathlib.Core.Path.{_≡_, refl, sym, ap, _∙_}
 use mathlib.Core.Bool.{Bool, true, false}
 use mathlib.Core.Logic.{inl}
 use mathlib.Core.List.{List}
@@ -11,13 +11,11 @@ use lib.ListN.{length, getD, replicate, length-replicate, List·getD-eq-default}
 use lib.Seq.{sets, getD-take}
 use borrow.Author.Tests.{ltb-true, ltb-false}
 use Rattle.cells.specs.Limits.{mostConditions}
-use Rattle.cells.specs.Row.{Row, at}
+use Rattle.cells.specs.Row.{Row}
 use Rattle.cells.specs.Condition.{Cells, cellIn, sideIn, trueIn}
-use Rattle.cells.specs.Operator.{holds}
 use Rattle.cells.specs.OperatorLaws.{holds-outside}
 use Rattle.cells.specs.declared.condition.Condition.{Condition}
-use Rattle.cells.specs.declared.condition.Side.{Side}
-use Rattle.cells.specs.declared.condition.Side.the-variants.{Column, Constant}
+use Rattle.cells.specs.declared.condition.Side.the-variants.{Column}
 use Rattle.plan.specs.Report.{noCondition, queryOf, conditionAt}
 use Rattle.text.specs.Lines.{Line}
 use Rattle.text.specs.LineParts.{joinLines}
@@ -27,18 +25,6 @@ use Rattle.reader.specs.Survey.{start}
 use Rattle.reader.specs.Agrees.{linesAfter}
 use Rattle.reader.specs.Kept.{conditions-kept}
 use Rattle.reader.specs.Query.{storedOf, done, kept-conditions, sets-behind}
-
--- cells that are the same everywhere make the same conditions true
-pub true-cells : (f g : Cells) → ((t row column : ℕ) → f t row column ≡ g t row column) → (k : Condition) (row : Row) → trueIn f k row ≡ trueIn g k row
-unfolding trueIn cellIn sideIn
-true-cells f g same k row = ap₂ (holds (k .operator)) (cell (k .table) (k .column)) (side (k .side))
-  where
-    cell : (t c : ℕ) → cellIn f row t c ≡ cellIn g row t c
-    cell t c = rw (same t (at row t) c)
-
-    side : (s : Side) → sideIn f row s ≡ sideIn g row s
-    side (Column t c) = cell t c
-    side (Constant z) = refl
 
 -- a condition with code 0 is true in no row
 no-operator : (f : Cells) (k : Condition) (row : Row) → k .operator ≡ 0 → trueIn f k row ≡ false

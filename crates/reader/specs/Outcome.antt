@@ -1,5 +1,5 @@
 -- What the reading of a text answers: document 01, "Questions, in order", 2 to 4. Assumes nothing.
-use mathlib.Core.Path.{_≡_, refl, sym, ap, _∙_}
+use mathlib.Core.Path.{_≡_, refl, sym, ap, ap₂, _∙_}
 use mathlib.Core.Bool.{Bool, true, false}
 use mathlib.Core.List.{List}
 use mathlib.Core.Option.{Option, none, some}
@@ -17,6 +17,7 @@ use Rattle.text.specs.Lines.{Line}
 use Rattle.text.specs.Reading.{textLines, reportOf}
 use Rattle.text.specs.ReadingLaws.{no-early-row}
 use Rattle.plan.specs.TableQuestions.{question3, question4}
+use Rattle.plan.specs.Asking.{firstNo, tableQuestions}
 use Rattle.text.specs.Parts.{linesFrom}
 use Rattle.load.specs.Cells.{textCells, laid}
 use Rattle.reader.specs.Survey.{start, stepIn, readFrom, surveyOf}
@@ -41,11 +42,9 @@ outcomeIn O.Accepted q = says q
 abbrev pub answerIn : Answer → TextOutcome
 answerIn a = outcomeIn (a .outcome) (a .query)
 
--- questions 3 and 4 of lines that stand in their places
+-- what the tables are asked, of lines that stand in their places
 unfoldable pub linesOutcome : List Line → TextOutcome
-linesOutcome ls =
-    if question3 (reportOf ls) then (if question4 (reportOf ls) then says (storedOf (linesAfter start ls)) else turnedDown 4)
-    else turnedDown 3
+linesOutcome ls = elim (firstNo tableQuestions (reportOf ls)) [ some n ↦ turnedDown n | none ↦ says (storedOf (linesAfter start ls)) ]
 
 unfoldable pub outcomeOf : Option (List Line) → TextOutcome
 outcomeOf none = turnedDown 2
@@ -73,14 +72,25 @@ unfoldable pub surveyOutcome : Option Reading → TextOutcome
 surveyOutcome none = turnedDown 2
 surveyOutcome (some s) = readingOutcome s
 
+-- the questions about the tables, in the order in which the code asks them
+asked : (a b : Bool) (x : TextOutcome) → (if a then (if b then x else turnedDown 4) else turnedDown 3)
+    ≡ (elim (elim a as (λ z. Option ℕ) [ true ↦ elim b as (λ z. Option ℕ) [ true ↦ none | false ↦ some 4 ] | false ↦ some 3 ]) as (λ z. TextOutcome)
+    [ some n ↦ turnedDown n | none ↦ x ])
+asked true true x = refl
+asked true false x = refl
+asked false b x = refl
+
 pub outcome-same : (bs : Bytes) → surveyOutcome (surveyOf bs) ≡ readOutcome bs
-unfolding surveyOutcome readOutcome outcomeOf surveyed readingOutcome linesOutcome
+unfolding surveyOutcome readOutcome outcomeOf surveyed readingOutcome linesOutcome firstNo tableQuestions
 outcome-same bs = ap surveyOutcome (survey-reads bs) ∙ go (textLines bs) refl
   where
     go : (o : Option (List Line)) → textLines bs ≡ o → surveyOutcome (surveyed o) ≡ outcomeOf o
     go none e = refl
     go (some ls) e =
-        let n = no-early-row bs ls e in rw (answer-3 ls n, answer-4 ls n)
+        let n = no-early-row bs ls e in
+        let x : TextOutcome = says (storedOf (linesAfter start ls)) in
+        ap₂ (λ (a b : Bool). if a then (if b then x else turnedDown 4) else turnedDown 3) (answer-3 ls n) (answer-4 ls n)
+        ∙ asked (question3 (reportOf ls)) (question4 (reportOf ls)) x
 
 -- ---- by the tests that the code makes
 

@@ -1,24 +1,18 @@
--- The joins that are kept of a text: their places in the array, their conditions within the text's, and, after question 5, sides that
--- are lower nodes. Assumes nothing.
+-- The joins that are kept of a text: their places in the array, and their conditions within the text's. Assumes nothing.
 use mathlib.Core.Path.{_≡_, sym, ap, _∙_, subst}
-use mathlib.Core.Bool.{_&&_}
-use mathlib.Core.List.{List, [], _∷_, map}
-use Prim.Native.Nat.{ℕ, zero, suc, _+_, _-_, _<_, _≤_}
+use mathlib.Core.List.{List, [], _∷_}
+use Prim.Native.Nat.{ℕ, suc, _+_, _-_, _<_, _≤_}
 use native.Mathlib.Omega.{arith}
-use lib.Dec.{T, eqb, ltb}
 use lib.ListN.{length, getD, set, length-map, length-set}
 use lib.Seq.{length-sets, getD-take}
-use mir.Facts.{and-yes, ltb-yes}
 use Rattle.cells.specs.Limits.{mostJoins}
 use Rattle.rows.specs.ListLaws.{_isIn_, here, there, getD-isIn}
-use Rattle.plan.specs.Report.{Join, Pair, queryOf, tableCount, joinPairs}
 use Rattle.plan.specs.Stored.{joinIn}
-use Rattle.plan.specs.Questions.{lowerSides, noneTwice, sidesOf, wellBuilt, question5}
 use Rattle.plan.specs.declared.query.StoredJoin.{StoredJoin}
 use Rattle.plan.specs.declared.query.StoredQuery.{StoredQuery}
 use Rattle.text.specs.Lines.{JoinLine, joinLine, conditionLine, Line}
 use Rattle.text.specs.LineParts.{joinLines}
-use Rattle.text.specs.Reading.{firstConditions, conditionsOf, joinsIn, reportOf}
+use Rattle.text.specs.Reading.{firstConditions, conditionsOf}
 use Rattle.reader.specs.State.{noJoins}
 use Rattle.reader.specs.Survey.{start}
 use Rattle.reader.specs.Agrees.{linesAfter}
@@ -38,25 +32,6 @@ within i (joinLine k a b ∷ ls) j (here e) =
     subst (λ (x : StoredJoin). x .first + x .count ≤ i + length (conditionsOf ls)) (sym e) (before-join i ls)
 within i (joinLine k a b ∷ ls) j (there m) = within i ls j m
 within i (conditionLine c ∷ ls) j m = let h = within (suc i) ls j m in omega arith
-
--- the sides of a join are lower nodes
-abbrev sides : Join → Pair
-sides j = (j .left, j .right)
-
-lower-at : (n : ℕ) (js : List StoredJoin) (d : StoredJoin) → T (lowerSides n (map sides (map joinIn js))) → (i : ℕ) → i < length js
-    → (getD js i d .left < n + i) × (getD js i d .right < n + i)
-unfolding lowerSides joinIn
-lower-at n [] d h i b = absurd (omega arith)
-lower-at n (j ∷ js) d h zero b =
-    let (x, y) = and-yes (ltb (j .left) n && ltb (j .right) n) (lowerSides (suc n) (map sides (map joinIn js))) h in
-    let (l, r) = and-yes (ltb (j .left) n) (ltb (j .right) n) x in
-    let p : j .left < n = ltb-yes l in
-    let q : j .right < n = ltb-yes r in
-    (omega arith, omega arith)
-lower-at n (j ∷ js) d h (suc i) b =
-    let (x, y) = and-yes (ltb (j .left) n && ltb (j .right) n) (lowerSides (suc n) (map sides (map joinIn js))) h in
-    let (l, r) = lower-at (suc n) js d y i (omega arith) in
-    (omega arith, omega arith)
 
 module _ (ls : List Line) where
   abbrev s : StoredQuery
@@ -81,14 +56,3 @@ module _ (ls : List Line) where
     join-range = rw (at-join, stored-numbered ls)
         (let h = within 0 (joinLines ls) (getD (storedJoins 0 (joinLines ls)) i d) (getD-isIn (storedJoins 0 (joinLines ls)) i d (subst (λ (n : ℕ). i < n) joined b)) in
         omega arith)
-
-    pub join-sides : T (question5 (queryOf (reportOf ls)))
-        → (getD (s .joins) i d .left < tableCount (queryOf (reportOf ls)) + i) × (getD (s .joins) i d .right < tableCount (queryOf (reportOf ls)) + i)
-    unfolding question5 wellBuilt joinPairs queryOf reportOf
-    join-sides five =
-        let n : ℕ = tableCount (queryOf (reportOf ls)) in
-        let ps : List Pair = map sides (joinsIn ls) in
-        let (x, _) = and-yes (eqb (suc (length ps)) n && lowerSides n ps) (noneTwice (sidesOf ps)) five in
-        let (_, y) = and-yes (eqb (suc (length ps)) n) (lowerSides n ps) x in
-        rw at-join (lower-at n (storedJoins 0 (joinLines ls)) d (subst (λ (js : List Join). T (lowerSides n (map sides js))) (sym (stored-joins 0 (joinLines ls))) y) i
-        (subst (λ (m : ℕ). i < m) joined b))

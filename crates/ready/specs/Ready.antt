@@ -1,47 +1,41 @@
 -- What is made ready of a query before its run. Serves the code only: no demand cites it. Assumes nothing.
 use mathlib.Core.Path.{_≡_}
-use mathlib.Core.Bool.{true, false, _&&_}
-use mathlib.Core.List.{[]}
+use mathlib.Core.List.{List, []}
+use mathlib.Core.Option.{Option, none, some}
 use Prim.Native.Nat.{ℕ}
-use lib.Dec.{leb}
+use lib.IntN.{ℤ}
 use lib.ListN.{length, replicate}
-use Rattle.plan.specs.Report.{joinOrder}
+use Rattle.cells.specs.Limits.{mostTables}
+use Rattle.plan.specs.Report.{Report, queryOf, joinOrder}
 use Rattle.plan.specs.Plan.{groundOf}
+use Rattle.plan.specs.Asking.{firstNo, orderQuestions}
 use Rattle.plan.specs.Sets.{blankingSets}
+use Rattle.plan.specs.Stands.{Stands}
 use Rattle.plan.specs.Steps.{stepsOf}
-use Rattle.plan.specs.Questions.{question8, question9, question10}
 use Rattle.plan.specs.Stored.{queryIn}
 use Rattle.plan.specs.StepWords.{listed}
 use Rattle.plan.specs.Words.{setWords}
 use Rattle.plan.specs.declared.query.StoredQuery.{StoredQuery}
-use Rattle.runner.specs.State.{startRun}
 use Rattle.ready.specs.declared.prepared.Prepared.{Prepared}
 
 -- a text that a question turned down
 unfoldable pub turnedAway : StoredQuery → ℕ → Prepared
-turnedAway q n = record {
-  run = record { nodes = 0; counts = replicate 8 0; best = false; refused = true };
-  number = n;
-  sets = replicate 8 0;
-  plan = listed [];
-  query = q;
-}
+turnedAway q n = record { number = n; sets = replicate mostTables 0; plan = listed []; query = q }
 
--- a query that is to be run, from the start, by its plan
+-- a query that is to be run, by its plan
 unfoldable pub readyFor : StoredQuery → Prepared
 readyFor q = record {
-  run = startRun q;
   number = 0;
   sets = setWords (blankingSets (queryIn q));
   plan = listed (stepsOf (groundOf (queryIn q)) (replicate (length (joinOrder (queryIn q))) 0));
   query = q;
 }
 
--- questions 8, 9 and 10
-pub record QueryPlanned (q : StoredQuery) (x : Prepared) : Type 0 where
-  pub eight : question8 (queryIn q) ≡ false → x ≡ turnedAway q 8
-  pub nine : question8 (queryIn q) ≡ true → (leb (q .«pair_count») 7 && question9 (queryIn q)) ≡ false → x ≡ turnedAway q 9
-  pub ten : question8 (queryIn q) ≡ true → (leb (q .«pair_count») 7 && question9 (queryIn q)) ≡ true → question10 (queryIn q) ≡ false
-      → x ≡ turnedAway q 10
-  pub rest : question8 (queryIn q) ≡ true → (leb (q .«pair_count») 7 && question9 (queryIn q)) ≡ true → question10 (queryIn q) ≡ true
-      → x ≡ readyFor q
+-- what is made ready where this is the first no of what the order is asked
+unfoldable pub readyBy : StoredQuery → Option ℕ → Prepared
+readyBy q none = readyFor q
+readyBy q (some n) = turnedAway q n
+
+-- what the order is asked, of every report that the stored query stands for
+abbrev pub QueryPlanned : StoredQuery → Prepared → Type 0
+QueryPlanned q x = (cells : List ℤ) (r : Report) → Stands q cells r → x ≡ readyBy q (firstNo orderQuestions (queryOf r))

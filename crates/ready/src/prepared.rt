@@ -1,10 +1,9 @@
-// A query made ready for its run: questions 8, 9 and 10, the sets and the plan.
+// A query made ready for its run: questions 9 and 10, the sets and the plan.
 use cells::limits::STEPS;
 use cells::limits::TABLES;
 use plan::query::StoredQuery;
 use plan::step::Step;
 use plan::steps::StepList;
-use runner::state::Run;
 ghost use mathlib.Core.Path.{_≡_};
 ghost use lib.Dec.{T};
 ghost use Rattle.plan.specs.Questions.{question5};
@@ -12,17 +11,15 @@ ghost use Rattle.plan.specs.Stored.{queryIn};
 ghost use Rattle.plan.specs.Counted.{Counted};
 ghost use Rattle.ready.specs.Ready.{turnedAway, QueryPlanned};
 
-// The state at the start of the run, which is refused where a question said no, and that question's number; each table's set, the
-// plan, and the query.
+// The number of the question that said no, or 0 where the query is to be run; each table's set, the plan, and the query.
 pub struct Prepared {
-    pub run: Run,
     pub number: u8,
     pub sets: [u64; TABLES],
     pub plan: StepList,
     pub query: StoredQuery,
 }
 
-// A text that a question turned down: there is no set and no step, and nothing runs.
+// A text that a question turned down: there is no set and no step.
 pub fn turned_away(q: StoredQuery, number: u8) -> Prepared
     ensures { λ r. ⌜ r ≡ turnedAway q number ⌝ }
 {
@@ -35,14 +32,7 @@ pub fn turned_away(q: StoredQuery, number: u8) -> Prepared
     };
     let steps = [zero; STEPS];
     let plan = StepList { steps, count: 0 };
-    let run = Run {
-        nodes: 0,
-        counts: [0u16; 8],
-        best: false,
-        refused: true,
-    };
     Prepared {
-        run,
         number,
         sets: [0u64; TABLES],
         plan,
@@ -50,14 +40,11 @@ pub fn turned_away(q: StoredQuery, number: u8) -> Prepared
     }
 }
 
-// Questions 8, 9 and 10 of a query that passed those before, its sets and its plan.
+// Questions 9 and 10 of a query that passed those before, its sets and its plan.
 pub fn plan_query(q: StoredQuery) -> Prepared
     requires { ⌜ Counted q × T (question5 (queryIn q)) ⌝ }
     ensures { λ r. ⌜ QueryPlanned q r ⌝ }
 {
-    if !plan::simplified::is_simplified(q) {
-        return turned_away(q, 8);
-    }
     if !questions::built::order_built(q) {
         return turned_away(q, 9);
     }
@@ -66,9 +53,7 @@ pub fn plan_query(q: StoredQuery) -> Prepared
         return turned_away(q, 10);
     }
     let list = plan::steps::steps_of(q, sets);
-    let run = runner::state::start(q);
     Prepared {
-        run,
         number: 0,
         sets,
         plan: list,
@@ -88,11 +73,4 @@ pub fn query_of(p: Prepared) -> StoredQuery
     ensures { λ r. ⌜ r ≡ p .query ⌝ }
 {
     p.query
-}
-
-// The state at the start of its run.
-pub fn start_of(p: Prepared) -> Run
-    ensures { λ r. ⌜ r ≡ p .run ⌝ }
-{
-    p.run
 }

@@ -1,5 +1,4 @@
 -- `accept::accept::accept` meets its contract: the reader's refusal, or the query's. Assumes nothing.
-use mathlib.Core.List.{[]}
 use Rattle.accept.specs.AcceptLaws.{call-refused, call-tables, call-asked}
 use borrow.Author.Needs.{needs}
 use Rattle.accept.proofs.accept.accept.Statement.{statement}
@@ -17,7 +16,7 @@ enum-told c = search needs
 ask-requires : tie.Need-ask-requires
 ask-requires c κs =
     let r = c .before .before .before .before .read in
-    call-tables _ [] [] _ (r .ensures .0) (c .enum-told .given .1)
+    call-tables _ _ _ _ (r .ensures .0) (r .ensures .1) (c .enum-told .given .1)
 
 same-length : tie.Need-same-length
 same-length c = search needs
@@ -26,7 +25,7 @@ returns : tie.Need-returns
 returns c =
     let m = c .before .before in
     let r = m .before .before .before .read in
-    call-refused _ _ _ _ (r .ensures .0) _ _ (c .before .outcome .given .1) (r .ensures .1)
+    call-refused _ _ _ _ (r .ensures .0) (r .ensures .1) _ _ (c .before .outcome .given .1)
 
 same-length-2 : tie.Need-same-length-2
 same-length-2 c = search needs
@@ -35,7 +34,7 @@ returns-2 : tie.Need-returns-2
 returns-2 c =
     let t = c .before in
     let r = t .before .before .before .before .read in
-    call-asked _ _ _ _ (r .ensures .0) (t .enum-told .given .1) _ (c .ask .ensures) (r .ensures .1)
+    call-asked _ _ _ _ (r .ensures .0) (r .ensures .1) (t .enum-told .given .1) _ (c .ask .ensures)
 
 pub accept-spec : {M : Type 1} → statement M
 accept-spec =

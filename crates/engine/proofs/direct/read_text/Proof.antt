@@ -1,6 +1,6 @@
--- `engine::direct::read_text` meets its contract: the refusal of questions 2 to 7, or the tree read. Assumes nothing.
+-- `engine::direct::read_text` meets its contract: the refusal of questions 2 to 8, or the tree read. Assumes nothing.
 use mathlib.Core.Path.{_∙_}
-use Rattle.engine.specs.DirectCode.{no-width, text-refused, text-counted, text-readable, text-width, text-tables, text-read}
+use Rattle.engine.specs.DirectCode.{no-width, text-refused, text-readable, text-width, text-tables, text-read}
 use borrow.Author.Needs.{needs}
 use Rattle.engine.proofs.direct.read_text.Statement.{statement}
 use Rattle.engine.proofs.direct.read_text.Tie as tie
@@ -20,7 +20,7 @@ read-tree-requires c κs =
     let x = t .before .before .before .before in
     let s = x .before .before .before .before .before in
     let e = t .enum-told .given .1 in
-    (text-counted (x .accept .ensures) e, text-readable (x .accept .ensures) e, text-tables (x .accept .ensures) e, s .pre .1, s .pre .2)
+    (text-readable (x .accept .ensures) e, text-tables (x .accept .ensures) e, s .pre .1, s .pre .2)
 
 if-rows-requires : tie.Need-if-rows-requires
 if-rows-requires c κs = search needs

@@ -1,7 +1,7 @@
--- `engine::prepare::prepare` meets its contract: the refusal of questions 2 to 7, or those behind them. Assumes nothing.
-use Rattle.engine.specs.DirectCode.{text-counted}
+-- `engine::prepare::prepare` meets its contract: the refusal of questions 2 to 8, or those behind them. Assumes nothing.
+use Rattle.engine.specs.DirectCode.{text-well, text-passed}
+use Rattle.engine.specs.Kept.{counted, five-kept}
 use Rattle.engine.specs.Preparing.{away, passed}
-use Rattle.engine.specs.ReportCode.{text-five}
 use borrow.Author.Needs.{needs}
 use Rattle.engine.proofs.prepare.prepare.Statement.{statement}
 use Rattle.engine.proofs.prepare.prepare.Tie as tie
@@ -22,7 +22,8 @@ plan-query-requires : tie.Need-plan-query-requires
 plan-query-requires c κs =
     let x = c .before .before .before .before .accept .ensures in
     let e = c .enum-told .given .1 in
-    (text-counted x e, text-five x e)
+    let k = x .kept e .stands in
+    (counted k (text-well x e) (text-passed x e), five-kept k (text-well x e) (text-passed x e))
 
 same-length : tie.Need-same-length
 same-length c = search needs

@@ -55,6 +55,7 @@ use Rattle.plan.proofs.steps.StepList.Laws as L′
 use Rattle.runner.specs.Laid.{laid}
 use Rattle.runner.specs.LaidLaws.{length-laid}
 use Rattle.runner.specs.Over.{Runs}
+use Rattle.runner.specs.State.{startRun}
 use Rattle.runner.specs.declared.state.Run.{Run}
 use Rattle.runner.proofs.state.Run as R
 use Rattle.runner.proofs.state.Run.Laws as R′
@@ -74,9 +75,9 @@ use Rattle.ready.proofs.prepared.plan_of.Met as plan-thm
 use Rattle.ready.proofs.prepared.query_of as query
 use Rattle.ready.proofs.prepared.query_of.Symbol as query-def
 use Rattle.ready.proofs.prepared.query_of.Met as query-thm
-use Rattle.ready.proofs.prepared.start_of as start
-use Rattle.ready.proofs.prepared.start_of.Symbol as start-def
-use Rattle.ready.proofs.prepared.start_of.Met as start-thm
+use Rattle.engine.proofs.prepare.start_of as start
+use Rattle.engine.proofs.prepare.start_of.Symbol as start-def
+use Rattle.engine.proofs.prepare.start_of.Met as start-thm
 use Rattle.engine.specs.Calls.{reportCall}
 use Rattle.engine.specs.Preparing.{enoughLent, refusedReply, Within, Prepares, Concludes, replied}
 use Rattle.engine.specs.ReportCode.{asCall, prepared-within, report-short, report-done}
@@ -440,7 +441,7 @@ module _ {M : Type 1} (𝓤 : URA M) (H : Heap 𝓤) (A : Atoms 𝓤) (W : Given
 
   -- ---- `run_over`, for what is prepared, p, and the cells c
 
-  module _ (p : Prepared) (p-is : PrepIs p) (c : List ℤ) (c-len : length c ≡ length c₀) (query-is : QueryIs (p .query)) (run-is : RunIs (p .run)) where
+  module _ (p : Prepared) (p-is : PrepIs p) (c : List ℤ) (c-len : length c ≡ length c₀) (query-is : QueryIs (p .query)) (run-is : RunIs (startRun (p .query))) where
     abbrev L₁ : List Step
     L₁ = laid-in (p .plan) n
 
@@ -452,7 +453,7 @@ module _ {M : Type 1} (𝓤 : URA M) (H : Heap 𝓤) (A : Atoms 𝓤) (W : Given
     Three = (ℕ × GName) × ((ℕ × GName) × (ℕ × GName))
 
     abbrev to-over : Three → Over 𝓤 H A mem run .Ghost
-    to-over x = (((x .0 .0 ∷ [], (x .1 .0 .0 ∷ [], (x .1 .1 .0 ∷ [], tt))), (fullShare, (fullShare, (fullShare, tt))), tt, (xs (x .0 .1) L₁, (xc (x .1 .0 .1) c, (xw (x .1 .1 .1) w₀, (p .query, (p .run, tt))))), (ss ∷ [], (sc ∷ [], (sw ∷ [], (query-val (p .query) ∷ [], (run-val (p .run) ∷ [], tt)))))), tt)
+    to-over x = (((x .0 .0 ∷ [], (x .1 .0 .0 ∷ [], (x .1 .1 .0 ∷ [], tt))), (fullShare, (fullShare, (fullShare, tt))), tt, (xs (x .0 .1) L₁, (xc (x .1 .0 .1) c, (xw (x .1 .1 .1) w₀, (p .query, (startRun (p .query), tt))))), (ss ∷ [], (sc ∷ [], (sw ∷ [], (query-val (p .query) ∷ [], (run-val (startRun (p .query)) ∷ [], tt)))))), tt)
 
     abbrev AllKept : Three → Item 𝓤
     AllKept x = Kept T.the-row κs qs γs bs os n 𝓤 H A (named 4) L₁ (x .0) ⊛ KeptShown i32 κc qc γc bc oc (length c₀) 𝓤 H A (named 1) c (x .1 .0) ⊛ Kept u16 κw qw γw bw ow (length w₀) 𝓤 H A (named 2) w₀ (x .1 .1)
@@ -467,19 +468,19 @@ module _ {M : Type 1} (𝓤 : URA M) (H : Heap 𝓤) (A : Atoms 𝓤) (W : Given
         -- [the cells' token; what is kept of them; the cells; work's token; what is kept of it; work; the steps' token; what is kept of them; the steps]
         nothing ! $ move ! (4 ∷ 0 ∷ []) $ join ! $ move ! (1 ∷ 0 ∷ []) $ join ! $ move ! (5 ∷ 0 ∷ []) $ join ! $
         -- [the tokens; what is kept of the cells; the cells; what is kept of work; work; what is kept of the steps; the steps]
-        nothing ! $ owned ! R.the-row (Is R.the-row) (LL.makes R.the-type R′.the-plain 𝓤 H A) (p .run) _ run-is $ fjoin ! $ owned ! Q.the-row (Is Q.the-row) (LL.makes Q.the-type Q′.the-plain 𝓤 H A) (p .query) _ query-is $ fjoin ! $
+        nothing ! $ owned ! R.the-row (Is R.the-row) (LL.makes R.the-type R′.the-plain 𝓤 H A) (startRun (p .query)) _ run-is $ fjoin ! $ owned ! Q.the-row (Is Q.the-row) (LL.makes Q.the-type Q′.the-plain 𝓤 H A) (p .query) _ query-is $ fjoin ! $
         move ! (5 ∷ 0 ∷ []) $ fjoin ! $ move ! (3 ∷ 0 ∷ []) $ fjoin ! $ move ! (5 ∷ 0 ∷ []) $ fjoin ! $ move ! (1 ∷ 0 ∷ []) $ passes ! $
         at-once ! $ show ! (λ (t : Three). mean 𝓤 H A (raw (Over 𝓤 H A mem run .pre (to-over t)) ⊛ AllKept t)) (x, (y, z)) $ frame ! $ move ! (2 ∷ 0 ∷ 1 ∷ []) $ done !)))
 
     -- what it gives: the state r with the machine value u, and the work buffer
     abbrev Over-said : Val → Run × List ℕ → Type 0
-    Over-said u z = Runs c (p .query) L₁ (p .run) w₀ (z .1) (z .0) × Is R.the-row (z .0) (u ∷ []) × (length (z .1) ≡ length w₀)
+    Over-said u z = Runs c (p .query) L₁ (startRun (p .query)) w₀ (z .1) (z .0) × Is R.the-row (z .0) (u ∷ []) × (length (z .1) ≡ length w₀)
 
     gave-over : (x : Three) (u : Val) → ent 𝓤 (⋆ 𝓤 H A (raw (Over 𝓤 H A mem run .post (to-over x) u) ∷ AllKept x ∷ []))
         (mean 𝓤 H A (later (some (λ (z : Run × List ℕ). (Cells c ⊛ Work (z .1) ⊛ Steps L₁) ⊛ raw (fact 𝓤 (Over-said u z))))))
     gave-over x u =
         qed W (raw (Over 𝓤 H A mem run .post (to-over x) u) ∷ AllKept x ∷ []) ∵ updating ! $
-        gives W ! tt over.ended (over.clauses 𝓤 H A mem run) (to-over x) u (λ r ws. (ws .0 ≡ L₁) × Runs c (p .query) L₁ (p .run) w₀ (ws .1 .1 .0) r) (λ r ws. id⊢ 𝓤 _) (λ r ws e is.
+        gives W ! tt over.ended (over.clauses 𝓤 H A mem run) (to-over x) u (λ r ws. (ws .0 ≡ L₁) × Runs c (p .query) L₁ (startRun (p .query)) w₀ (ws .1 .1 .0) r) (λ r ws. id⊢ 𝓤 _) (λ r ws e is.
         move ! (1 ∷ []) $ fsplit ! $ fsplit ! $ move ! (1 ∷ []) $ feqL ! (λ same. move ! (1 ∷ []) $ fsplit ! $ move ! (1 ∷ []) $ fsplit ! $ fsplit ! $ move ! (1 ∷ []) $ feqL ! (λ same′.
         -- [work's last list; true; true; the steps' last list; the tokens; what is kept]
         move ! (4 ∷ []) $ use1 W (‵ (flft (x .0 .0 ∷ []) fullShare) ⊛ ‵ (flft (x .1 .0 .0 ∷ []) fullShare) ⊛ ‵ (flft (x .1 .1 .0 ∷ []) fullShare) ⊛ ‵ ftrue) (id⊢ 𝓤 _) $ split ! $ move ! (6 ∷ []) $ split ! $
@@ -572,8 +573,8 @@ module _ {M : Type 1} (𝓤 : URA M) (H : Heap 𝓤) (A : Atoms 𝓤) (W : Given
         land ! (from ! (stop !)) (init ! 61 refl (LL.lawful Q.the-type Q′.the-laws 𝓤 H A W .typed (p .query) _ v-is₇ .0)) $ rewrite ! 61 (λ (v : Val). ‵ (fat fullShare τ-query l8 0 v)) (ap only (LL.tells Q.the-type Q′.the-laws (p .query) _ v-is₇)) refl $
         use0 W (raw (StartOf 𝓤 H A mem run .pre (to-start p))) (asks-one W P.the-row (LL.makes P.the-type P′.the-plain 𝓤 H A) p _ p-is) $
         calls-at ! fm (StartOf 𝓤 H A mem run) known-start (to-start p) (and-then ! (load ! (from ! (stop !)) (look ! 66 refl)) (no-more !)) (λ u₈.
-        answers W ! tt start.ended (start.clauses 𝓤 H A mem run) (to-start p) u₈ (λ z. z ≡ p .run) (λ z e. id⊢ 𝓤 _) (λ z₈ e₈ z-is₈. let v-is₈ = subst (λ z. Is R.the-row z (u₈ ∷ [])) e₈ z-is₈ in let is₈ = subst (Is R.the-row (p .run)) (LL.tells R.the-type R′.the-laws (p .run) _ v-is₈) v-is₈ in drop ! $ drop ! $
-        land ! (from ! (stop !)) (init ! 59 refl (LL.lawful R.the-type R′.the-laws 𝓤 H A W .typed (p .run) _ v-is₈ .0)) $ rewrite ! 59 (λ (v : Val). ‵ (fat fullShare τ-run l9 0 v)) (ap only (LL.tells R.the-type R′.the-laws (p .run) _ v-is₈)) refl $
+        answers W ! tt start.ended (start.clauses 𝓤 H A mem run) (to-start p) u₈ (λ z. z ≡ startRun (p .query)) (λ z e. id⊢ 𝓤 _) (λ z₈ e₈ z-is₈. let v-is₈ = subst (λ z. Is R.the-row z (u₈ ∷ [])) e₈ z-is₈ in let is₈ = subst (Is R.the-row (startRun (p .query))) (LL.tells R.the-type R′.the-laws (startRun (p .query)) _ v-is₈) v-is₈ in drop ! $ drop ! $
+        land ! (from ! (stop !)) (init ! 59 refl (LL.lawful R.the-type R′.the-laws 𝓤 H A W .typed (startRun (p .query)) _ v-is₈ .0)) $ rewrite ! 59 (λ (v : Val). ‵ (fat fullShare τ-run l9 0 v)) (ap only (LL.tells R.the-type R′.the-laws (startRun (p .query)) _ v-is₈)) refl $
         -- `put_plan`
         assigns ! (addr ! (from ! (fld ! refl (hop ! (look-in ! 67 (sub ! 0 refl (whole !))) (stop !))))) (from ! (stop !)) (init ! 35 refl (tt, tt)) $
         assigns ! (agg ! (and-then ! (load ! (from ! (stop !)) (look ! 35 refl)) (and-then ! (load ! (from ! (fld ! refl (stop !))) (look-in ! 67 (sub ! 1 refl (whole !)))) (no-more !)))) (from ! (stop !)) (init ! 33 refl (tt, (tt, (record { fits = gs .0 }, tt)))) $
@@ -654,7 +655,7 @@ report-into-spec 𝓤 H 𝓜 𝓖 𝓡 =
     (known 𝓤 H 𝓜 𝓖 𝓡 code.env (Put 𝓤 H A (𝓜 .mem) (𝓡 .run)) put-def.name put-def.routine code.calls-runner·list·put-plan (put-thm.met 𝓤 H 𝓜 𝓖 𝓡))
     (known 𝓤 H 𝓜 𝓖 𝓡 code.env (PlanOf 𝓤 H A (𝓜 .mem) (𝓡 .run)) plan-def.name plan-def.routine code.calls-ready·prepared·plan-of (plan-thm.met 𝓤 H 𝓜 𝓖 𝓡))
     (known 𝓤 H 𝓜 𝓖 𝓡 code.env (QueryOf 𝓤 H A (𝓜 .mem) (𝓡 .run)) query-def.name query-def.routine code.calls-ready·prepared·query-of (query-thm.met 𝓤 H 𝓜 𝓖 𝓡))
-    (known 𝓤 H 𝓜 𝓖 𝓡 code.env (StartOf 𝓤 H A (𝓜 .mem) (𝓡 .run)) start-def.name start-def.routine code.calls-ready·prepared·start-of (start-thm.met 𝓤 H 𝓜 𝓖 𝓡))
+    (known 𝓤 H 𝓜 𝓖 𝓡 code.env (StartOf 𝓤 H A (𝓜 .mem) (𝓡 .run)) start-def.name start-def.routine code.calls-engine·prepare·start-of (start-thm.met 𝓤 H 𝓜 𝓖 𝓡))
     (known 𝓤 H 𝓜 𝓖 𝓡 code.env (Over 𝓤 H A (𝓜 .mem) (𝓡 .run)) over-def.name over-def.routine code.calls-runner·over·run-over (over-thm.met 𝓤 H 𝓜 𝓖 𝓡))
     (known 𝓤 H 𝓜 𝓖 𝓡 code.env (End 𝓤 H A (𝓜 .mem) (𝓡 .run)) end-def.name end-def.routine code.calls-engine·planned·conclude (end-thm.met 𝓤 H 𝓜 𝓖 𝓡))
     (known 𝓤 H 𝓜 𝓖 𝓡 code.env (ListOf 𝓤 H A (𝓜 .mem) (𝓡 .run)) list-def.name list-def.routine code.calls-engine·planned·list-of (list-thm.met 𝓤 H 𝓜 𝓖 𝓡))

@@ -1,4 +1,4 @@
--- `ready::prepared::turned_away` meets its contract: no set, no step, and a state that is refused. Assumes nothing.
+-- `ready::prepared::turned_away` meets its contract: no set and no step. Assumes nothing.
 use mathlib.Core.Path.{refl}
 use Rattle.plan.specs.Steps.{zeroStep}
 use Rattle.plan.specs.StepWords.{listed}
