@@ -1,13 +1,14 @@
 -- The code of the direct reading meets its contracts, by the tests that it makes. Assumes nothing.
 use mathlib.Core.Path.{_≡_, refl, sym, ap, _∙_, subst}
-use mathlib.Core.Bool.{Bool, true, false}
+use mathlib.Core.Bool.{Bool, true, false, _&&_, and-true}
 use mathlib.Core.List.{List}
 use mathlib.Core.Option.{Option, none, some}
 use Prim.Native.Nat.{ℕ, _≤_, _<_}
 use lib.IntN.{ℤ, pos}
 use lib.ListN.{length, replicate, length-map}
-use borrow.Author.Tests.{le-leb, lt-leb}
-use Rattle.cells.specs.Limits.{cellRoom, workRoom, resultRoom}
+use lib.Dec.{leb}
+use mir.Facts.{and-yes, leb-yes}
+use Rattle.cells.specs.Limits.{cellRoom, workRoom, resultRoom, stepListRoom}
 use Rattle.cells.specs.Row.{Row}
 use Rattle.plan.specs.Asking.{firstNo, sharedQuestions}
 use Rattle.plan.specs.QueryLaws.{WellRead}
@@ -26,6 +27,7 @@ use Rattle.engine.specs.AnswerLaws.{read-well}
 use Rattle.engine.specs.Calls.{Lent, question1Direct, cleared, directAfter, DirectCall, directCall}
 use Rattle.engine.specs.Gave.{answerFor, resultFor, Gave, elevenOf, TreeRead, tablesIn, widthOf, ifRows}
 use Rattle.engine.specs.Kept.{readable}
+use Rattle.engine.specs.Preparing.{enoughLent}
 use Rattle.engine.specs.DirectLaws.{direct-early, direct-passed}
 use Rattle.engine.specs.declared.answer.Answer.{Answer}
 use Rattle.engine.specs.declared.answer.Answer.the-variants.{Rows, Refused}
@@ -111,26 +113,29 @@ module _ (bs : Bytes) (c : List ℤ) (w r : List ℕ) where
   unfolding directCall
   call-by b e = ap by (sym e)
 
-  pub short-work : length w < workRoom → record { answer = Refused 1; lent = lent c w r } ≡ directCall bs (lent c w r)
-  unfolding question1Direct
-  short-work h = call-by false (rw (lt-leb workRoom (length w) h))
+  -- question 1, by the code's test, which asks for a list of steps too
+  abbrev pub First : Bool → Type 0
+  First b = enoughLent (length c) (length w) (length r) stepListRoom ≡ b
 
-  pub short-result : workRoom ≤ length w → length r < resultRoom → record { answer = Refused 1; lent = lent c w r } ≡ directCall bs (lent c w r)
-  unfolding question1Direct
-  short-result h k = call-by false (rw (le-leb workRoom (length w) h, lt-leb resultRoom (length r) k))
+  first-asked : enoughLent (length c) (length w) (length r) stepListRoom ≡ question1Direct (lent c w r)
+  unfolding enoughLent question1Direct
+  first-asked = and-true _
 
-  pub short-cells : workRoom ≤ length w → resultRoom ≤ length r → length c < cellRoom
-      → record { answer = Refused 1; lent = lent c w r } ≡ directCall bs (lent c w r)
-  unfolding question1Direct
-  short-cells h k l = call-by false (rw (le-leb workRoom (length w) h, le-leb resultRoom (length r) k, lt-leb cellRoom (length c) l))
+  pub direct-short : First false → record { answer = Refused 1; lent = lent c w r } ≡ directCall bs (lent c w r)
+  direct-short e = call-by false (sym first-asked ∙ e)
 
-  pub direct-done : (c′ : List ℤ) (w′ r′ : List ℕ) (a : Answer) → workRoom ≤ length w → resultRoom ≤ length r → cellRoom ≤ length c
+  pub direct-room : First true → (cellRoom ≤ length c) × (workRoom ≤ length w) × (resultRoom ≤ length r)
+  unfolding question1Direct
+  direct-room e =
+      let (a, d) = and-yes (leb workRoom (length w) && leb resultRoom (length r)) (leb cellRoom (length c)) (rw (sym first-asked ∙ e) tt) in
+      let (b, f) = and-yes (leb workRoom (length w)) (leb resultRoom (length r)) a in
+      (leb-yes d, leb-yes b, leb-yes f)
+
+  pub direct-done : First true → (c′ : List ℤ) (w′ r′ : List ℕ) (a : Answer)
       → Gave (directOutcome bs) r r′ a → (n k : ℕ) → w′ ≡ replicate n 0 → c′ ≡ replicate k (pos 0) → n ≡ length w → k ≡ length c
       → record { answer = a; lent = lent c′ w′ r′ } ≡ directCall bs (lent c w r)
-  unfolding question1Direct directAfter cleared answerFor resultFor
-  direct-done c′ w′ r′ a h k l g n m e f x y =
-      after (directOutcome bs) g
-      ∙ call-by true (rw (le-leb workRoom (length w) h, le-leb resultRoom (length r) k, le-leb cellRoom (length c) l))
+  unfolding directAfter cleared answerFor resultFor
+  direct-done enough c′ w′ r′ a g n m e f x y = after (directOutcome bs) g ∙ call-by true (sym first-asked ∙ enough)
     where
       after : (o : Outcome (List Row)) → Gave o r r′ a → record { answer = a; lent = lent c′ w′ r′ } ≡ directAfter o (lent c w r)
       after (refused i) z = rw (z .answer, z .result, e, f, x, y)

@@ -7,7 +7,6 @@ use lib.Dec.{leb}
 use lib.IntN.{ℤ, pos}
 use lib.ListN.{length, replicate}
 use Rattle.cells.specs.Limits.{mostTables, cellRoom, areas, workRoom, resultRoom, stepListRoom}
-use Rattle.plan.specs.Facts.{noFacts}
 use Rattle.plan.specs.declared.step.Step.{Step}
 use Rattle.text.specs.Bytes.{Bytes}
 use Rattle.accept.specs.Accept.{Accepts}
@@ -19,7 +18,7 @@ use Rattle.runner.specs.declared.state.Run.{Run}
 use Rattle.ready.specs.Ready.{turnedAway, QueryPlanned}
 use Rattle.ready.specs.declared.prepared.Prepared.{Prepared}
 use Rattle.engine.specs.Planning.{turnedDown, handedOver}
-use Rattle.engine.specs.declared.answer.Answer.the-variants.{Refused}
+use Rattle.engine.specs.declared.planned.Concluded.{Concluded}
 use Rattle.engine.specs.declared.planned.Planned.{Planned}
 use Rattle.engine.specs.declared.planned.Reply.{Reply}
 
@@ -28,10 +27,6 @@ use Rattle.engine.specs.declared.planned.Reply.{Reply}
 -- by the lengths of the cell run, the work buffer, the result buffer and the step list
 unfoldable pub enoughLent : ℕ → ℕ → ℕ → ℕ → Bool
 enoughLent cells work result steps = (leb workRoom work && leb resultRoom result && leb cellRoom cells) && leb stepListRoom steps
-
--- a refusal, as it is answered beside a lent list
-unfoldable pub refusedReply : ℕ → Reply
-refusedReply n = record { answer = Refused n; facts = noFacts; count = 0 }
 
 -- ---- before a run
 
@@ -47,21 +42,17 @@ abbrev pub Within : Prepared → Type 0
 Within p = p .number ≤ 0 → (1 ≤ p .query .«table_count») × (p .query .«table_count» ≤ mostTables)
 
 -- what is handed over for what was made ready, p, and the state at the end, r; w is the work buffer, v and v′ the result before and after
-pub record Ends (p : Prepared) (r : Run) (w v v′ : List ℕ) (x : Planned) : Type 0 where
+pub record Ends (p : Prepared) (r : Run) (w v v′ : List ℕ) (x : Concluded) : Type 0 where
   pub refused : 0 < p .number → (x ≡ turnedDown (p .number)) × (v′ ≡ v)
   pub rows : p .number ≡ 0 → (length (r .counts) ≡ areas)
       × ((a : Joined) × Ended (p .query) r w v v′ a × (x ≡ handedOver (p .query) (p .sets) (p .plan) (r .counts) a))
 
--- what is handed over, as it is answered beside a lent list
-unfoldable pub replied : Planned → Reply
-replied x = record { answer = x .answer; facts = x .facts; count = x .plan .count }
-
--- and by value
+-- what is answered, with these steps, by value
 unfoldable pub byValue : Reply → List Step → Planned
 byValue r steps = record { answer = r .answer; facts = r .facts; plan = record { steps = steps; count = r .count } }
 
 -- the end of a call: c, w and v are the cell run, the work buffer and the result, before and after
-pub record Concludes (p : Prepared) (r : Run) (c c′ : List ℤ) (w w′ v v′ : List ℕ) (x : Planned) : Type 0 where
+pub record Concludes (p : Prepared) (r : Run) (c c′ : List ℤ) (w w′ v v′ : List ℕ) (x : Concluded) : Type 0 where
   pub ends : Ends p r w v v′ x
   pub cells : c′ ≡ replicate (length c) (pos 0)
   pub work : w′ ≡ replicate (length w) 0

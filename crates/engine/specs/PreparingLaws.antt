@@ -31,10 +31,10 @@ use Rattle.runner.specs.State.{startRun, Ended}
 use Rattle.runner.specs.declared.state.Run.{Run}
 use Rattle.ready.specs.Ready.{readyFor}
 use Rattle.ready.specs.declared.prepared.Prepared.{Prepared}
-use Rattle.engine.specs.Planning.{turnedDown, withCounts, handedOver, StepsRun}
+use Rattle.engine.specs.Planning.{turnedDown, answeredWith, withCounts, handedOver, StepsRun}
 use Rattle.engine.specs.Preparing.{enoughLent, Ends}
 use Rattle.engine.specs.declared.answer.Answer.the-variants.{Rows}
-use Rattle.engine.specs.declared.planned.Planned.{Planned}
+use Rattle.engine.specs.declared.planned.Concluded.{Concluded}
 
 -- ---- question 1, by the code's tests
 
@@ -59,27 +59,27 @@ module _ (cells work result steps : ℕ) where
 -- ---- what is handed over, by the code's tests
 
 module _ {p : Prepared} {r : Run} {w v : List ℕ} where
-  pub ends-away : {x : Planned} → 0 < p .number → x ≡ turnedDown (p .number) → Ends p r w v v x
+  pub ends-away : {x : Concluded} → 0 < p .number → x ≡ turnedDown (p .number) → Ends p r w v v x
   ends-away e f = record { refused = λ h. (f, refl); rows = λ h. absurd (omega (arith, e, h)) }
 
   module _ {v′ : List ℕ} {a : Joined} (e : p .number ≤ 0) (long : length (r .counts) ≡ areas) (ended : Ended (p .query) r w v v′ a) where
-    pub ends-rows : {s : StepList} (k : ℕ) → a ≡ J.Rows k → s ≡ withCounts (p .plan) (r .counts) (p .query .«table_count» - 1)
-        → Ends p r w v v′ (record { answer = Rows k; facts = record { tables = p .query .«table_count»; sets = p .sets }; plan = s })
+    pub ends-rows : {x : Concluded} {s : StepList} (k : ℕ) → a ≡ J.Rows k → x ≡ answeredWith k (record { tables = p .query .«table_count»; sets = p .sets }) s
+        → s ≡ withCounts (p .plan) (r .counts) (p .query .«table_count» - 1) → Ends p r w v v′ x
     unfolding handedOver
-    ends-rows {s} k f g = record {
+    ends-rows k f i g = record {
       refused = λ h. absurd (omega (arith, e, h));
       rows = λ h. (
         long,
         (
           a,
           ended,
-          ap (λ (z : StepList). record { answer = Rows k; facts = record { tables = p .query .«table_count»; sets = p .sets }; plan = z }) g
+          i ∙ ap (answeredWith k (record { tables = p .query .«table_count»; sets = p .sets })) g
               ∙ sym (ap (handedOver (p .query) (p .sets) (p .plan) (r .counts)) f),
         ),
       );
     }
 
-    pub ends-over : {x : Planned} → a ≡ J.TooMany → x ≡ turnedDown 11 → Ends p r w v v′ x
+    pub ends-over : {x : Concluded} → a ≡ J.TooMany → x ≡ turnedDown 11 → Ends p r w v v′ x
     unfolding handedOver
     ends-over f g = record {
       refused = λ h. absurd (omega (arith, e, h));
@@ -89,7 +89,7 @@ module _ {p : Prepared} {r : Run} {w v : List ℕ} where
 -- ---- a query that is ready, its plan laid into a list of n steps and run from it
 
 module _ (q : StoredQuery) (readable : Readable q) (five : T (question5 (queryIn q))) (nine : T (question9 (queryIn q))) (cells : List ℤ) (n : ℕ)
-    (enough : stepListRoom ≤ n) (w w′ v v′ : List ℕ) (long : workRoom ≤ length w) (wide : resultRoom ≤ length v) (r : Run) (h : Planned) where
+    (enough : stepListRoom ≤ n) (w w′ v v′ : List ℕ) (long : workRoom ≤ length w) (wide : resultRoom ≤ length v) (r : Run) (h : Concluded) where
   pub ready-run : Runs cells q (laid (take (readyFor q .plan .count) (readyFor q .plan .steps)) n) (startRun q) w w′ r → Ends (readyFor q) r w′ v v′ h
       → StepsRun (workspace cells (q .layout) (q .conditions)) q v v′ h
   unfolding readyFor startRun

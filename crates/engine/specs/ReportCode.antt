@@ -38,11 +38,12 @@ use Rattle.engine.specs.Bounds.{report-bounded}
 use Rattle.engine.specs.Calls.{Lent, question1Direct, question1, cleared, laidOut, ReportCall, reportAfter, reportCall}
 use Rattle.engine.specs.DirectCode.{text-well, text-passed, text-readable, lent}
 use Rattle.engine.specs.Kept.{five-kept, nine-kept}
-use Rattle.engine.specs.Planning.{turnedDown, StepsRun, plannedFor, resultAfter, Reported}
-use Rattle.engine.specs.Preparing.{enoughLent, refusedReply, Prepares, away, passed, Within, Ends, replied, byValue, Concludes}
+use Rattle.engine.specs.Planning.{refusedReply, turnedDown, answeredWith, StepsRun, concludedFor, resultAfter, Reported}
+use Rattle.engine.specs.Preparing.{enoughLent, Prepares, away, passed, Within, Ends, byValue, Concludes}
 use Rattle.engine.specs.PreparingLaws.{ready-run}
 use Rattle.engine.specs.ReportLaws.{report-early, report-order, report-ran}
 use Rattle.engine.specs.declared.answer.Answer.the-variants.{Refused}
+use Rattle.engine.specs.declared.planned.Concluded.{Concluded}
 use Rattle.engine.specs.declared.planned.Planned.{Planned}
 use Rattle.engine.specs.declared.planned.Reply.{Reply}
 
@@ -71,7 +72,7 @@ prepared-within {p = p} (passed {a} h e z) f =
     subst (λ (q : StoredQuery). (1 ≤ q .«table_count») × (q .«table_count» ≤ mostTables)) (sym same) (x .some, x .few)
 
 module _ (bs : Bytes) (before after : List ℤ) (p : Prepared) (room : cellRoom ≤ length before) (n : ℕ) (enough : stepListRoom ≤ n)
-    (w w′ v v′ : List ℕ) (long : workRoom ≤ length w) (wide : resultRoom ≤ length v) (r : Run) (h : Planned) where
+    (w w′ v v′ : List ℕ) (long : workRoom ≤ length w) (wide : resultRoom ≤ length v) (r : Run) (h : Concluded) where
   abbrev Ran : Prepared → Type 0
   Ran x = Runs after (x .query) (laid (take (x .plan .count) (x .plan .steps)) n) (startRun (x .query)) w w′ r
 
@@ -151,11 +152,11 @@ module _ (bs : Bytes) (c : List ℤ) (w v : List ℕ) (ys : List Step) where
 
     -- a call that question 1 does not turn down: the text is made ready, its plan laid into the list of steps and run from it; what is
     -- handed over is answered, lent memory cleared, and the plan with its counts laid into the list
-    pub report-done : {c₁ c′ : List ℤ} {w₁ w′ v′ : List ℕ} {p : Prepared} {r : Run} {x : Planned} {y : Reply} {l : List Step} → Prepares bs c c₁ p
+    pub report-done : {c₁ c′ : List ℤ} {w₁ w′ v′ : List ℕ} {p : Prepared} {r : Run} {x : Concluded} {y : Reply} {l : List Step} → Prepares bs c c₁ p
         → Runs c₁ (p .query) (laid (take (p .plan .count) (p .plan .steps)) (length ys)) (startRun (p .query)) w w₁ r → Concludes p r c₁ c′ w₁ w′ v v′ x
-        → l ≡ laid (take (x .plan .count) (x .plan .steps)) (length ys) → y ≡ replied x → length c₁ ≡ length c → length w₁ ≡ length w
+        → l ≡ laid (take (x .plan .count) (x .plan .steps)) (length ys) → y ≡ x .reply → length c₁ ≡ length c → length w₁ ≡ length w
         → asCall y (lent c′ w′ v′) l ≡ reportCall bs (lent c w v) ys
-    unfolding reportAfter cleared plannedFor resultAfter turnedDown replied listed
+    unfolding reportAfter cleared concludedFor resultAfter turnedDown answeredWith refusedReply listed
     report-done {c₁} {c′} {w₁} {w′} {v′} {p} {r} {x} {y} {l} ready run end e i f g =
         ap (λ (z : Reply). asCall z (lent c′ w′ v′) l) i
         ∙ after (reportOutcome bs) refl (prepared-run bs c c₁ p (parts .0) (length ys) (parts .3) w w₁ v v′ (parts .1) (parts .2) r x ready run (end .ends))
@@ -170,6 +171,6 @@ module _ (bs : Bytes) (c : List ℤ) (w v : List ℕ) (ys : List Step) where
         steps : (s : List Step) → length s ≤ mostSteps → x .plan ≡ listed s → l ≡ laidOut s (length ys)
         steps s k z = e ∙ ap (λ (t : StepList). laid (take (t .count) (t .steps)) (length ys)) z ∙ plan-laid s (length ys) k (parts .3)
 
-        after : (o : Outcome ReportAnswer) → reportOutcome bs ≡ o → Reported o v v′ x → asCall (replied x) (lent c′ w′ v′) l ≡ reportAfter o (lent c w v) ys
-        after (refused i) z t = rw (steps [] (omega arith) (ap (λ (h : Planned). h .plan) (t .planned)), t .planned, t .result, cells, work)
-        after (answered a) z t = rw (steps (a .steps) (report-bounded bs a z .1) (ap (λ (h : Planned). h .plan) (t .planned)), t .planned, t .result, cells, work)
+        after : (o : Outcome ReportAnswer) → reportOutcome bs ≡ o → Reported o v v′ x → asCall (x .reply) (lent c′ w′ v′) l ≡ reportAfter o (lent c w v) ys
+        after (refused i) z t = rw (steps [] (omega arith) (ap (λ (h : Concluded). h .plan) (t .concluded)), t .concluded, t .result, cells, work)
+        after (answered a) z t = rw (steps (a .steps) (report-bounded bs a z .1) (ap (λ (h : Concluded). h .plan) (t .concluded)), t .concluded, t .result, cells, work)

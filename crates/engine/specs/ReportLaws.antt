@@ -50,16 +50,16 @@ use Rattle.engine.specs.Answers.{Outcome, refused, answered, reportQuest
 use Rattle.engine.specs.AnswerLaws.{read-well, outcome-answered, outcome-refused, refused-early}
 use Rattle.engine.specs.Calls.{factsOf, written}
 use Rattle.engine.specs.Kept.{nine-yes, query-kept}
-use Rattle.engine.specs.Planning.{turnedDown, withCounts, handedOver, StepsRun, plannedFor, resultAfter, Reported}
+use Rattle.engine.specs.Planning.{turnedDown, answeredWith, withCounts, handedOver, StepsRun, concludedFor, resultAfter, Reported}
 use Rattle.engine.specs.PlanningLaws.{rows-counted}
 use Rattle.engine.specs.Reached.{pair-count, node-count, report-count, report-numbers}
 use Rattle.engine.specs.declared.answer.Answer.the-variants.{Rows}
-use Rattle.engine.specs.declared.planned.Planned.{Planned}
+use Rattle.engine.specs.declared.planned.Concluded.{Concluded}
 
 -- an outcome that is known
-pub reported : {o : Outcome ReportAnswer} {w w′ : List ℕ} {r : Planned} (k : Outcome ReportAnswer) → o ≡ k → r ≡ plannedFor k → w′ ≡ resultAfter k w
+pub reported : {o : Outcome ReportAnswer} {w w′ : List ℕ} {r : Concluded} (k : Outcome ReportAnswer) → o ≡ k → r ≡ concludedFor k → w′ ≡ resultAfter k w
     → Reported o w w′ r
-reported {o} {w} k e x y = record { planned = x ∙ ap plannedFor (sym e); result = y ∙ ap (λ (z : Outcome ReportAnswer). resultAfter z w) (sym e) }
+reported {o} {w} k e x y = record { concluded = x ∙ ap concludedFor (sym e); result = y ∙ ap (λ (z : Outcome ReportAnswer). resultAfter z w) (sym e) }
 
 -- what is asked behind the questions of both runs
 abbrev order : List (Question Report)
@@ -69,8 +69,8 @@ abbrev last : List (Question Report)
 last = (11, λ (r : Report). question11 r) ∷ []
 
 -- a text that a question of both runs turns down
-pub report-early : (bs : Bytes) (n : ℕ) (w : List ℕ) {r : Planned} → refusal bs ≡ some n → r ≡ turnedDown n → Reported (reportOutcome bs) w w r
-unfolding reportOutcome reportQuestions questionsOfReport plannedFor resultAfter
+pub report-early : (bs : Bytes) (n : ℕ) (w : List ℕ) {r : Concluded} → refusal bs ≡ some n → r ≡ turnedDown n → Reported (reportOutcome bs) w w r
+unfolding reportOutcome reportQuestions questionsOfReport concludedFor resultAfter
 report-early bs n w e f =
     reported (refused n)
     (ap (λ (qs : List (Question Report)). outcomeBy qs reportAnswer bs) (append-assoc sharedQuestions order last) ∙ refused-early (order ++ last) reportAnswer bs n e)
@@ -79,12 +79,10 @@ report-early bs n w e f =
 -- ---- what is handed over
 
 -- after the run of a query's plan
-abbrev handedBy : Query → ℕ → List ℕ → Joined → Planned
-handedBy q n counts (J.Rows k) = record {
-  answer = Rows k;
-  facts = record { tables = n; sets = setWords (blankingSets q) };
-  plan = withCounts (listed (stepsOf (groundOf q) (replicate (length (joinOrder q)) 0))) counts (n - 1);
-}
+abbrev handedBy : Query → ℕ → List ℕ → Joined → Concluded
+handedBy q n counts (J.Rows k) =
+    answeredWith k (record { tables = n; sets = setWords (blankingSets q) })
+    (withCounts (listed (stepsOf (groundOf q) (replicate (length (joinOrder q)) 0))) counts (n - 1))
 handedBy q n counts J.TooMany = turnedDown 11
 
 handed-by : (s : StoredQuery) (counts : List ℕ) (j : Joined)
@@ -121,8 +119,8 @@ module _ (bs : Bytes) {s : StoredQuery} {cells : List ℤ} {r : Report} (read : 
   asked = none-then sharedQuestions order r yes ∙ first-about queryOf orderQuestions r
 
   -- a question about the order says no
-  pub report-order : (n : ℕ) (w : List ℕ) {x : Planned} → firstNo orderQuestions q ≡ some n → x ≡ turnedDown n → Reported (reportOutcome bs) w w x
-  unfolding reportOutcome reportQuestions questionsOfReport plannedFor resultAfter
+  pub report-order : (n : ℕ) (w : List ℕ) {x : Concluded} → firstNo orderQuestions q ≡ some n → x ≡ turnedDown n → Reported (reportOutcome bs) w w x
+  unfolding reportOutcome reportQuestions questionsOfReport concludedFor resultAfter
   report-order n w e f =
       reported (refused n)
       (outcome-refused (sharedQuestions ++ order ++ last) reportAnswer bs r read n (no-then (sharedQuestions ++ order) last r n (asked ∙ e))) f refl
@@ -245,9 +243,9 @@ module _ (bs : Bytes) {s : StoredQuery} {cells : List ℤ} {r : Report} (read : 
     tables-all = sym (length-map (blankingSets q) bitsOf ∙ blanking-proper q .each)
 
     -- the plan run
-    ran-gives : (w w′ : List ℕ) {x : Planned} (counts : List ℕ) (j : Joined) → length counts ≡ areas → PlanRan W trees n (n - 1) (blankings (groundOf q)) counts w w′ j
+    ran-gives : (w w′ : List ℕ) {x : Concluded} (counts : List ℕ) (j : Joined) → length counts ≡ areas → PlanRan W trees n (n - 1) (blankings (groundOf q)) counts w w′ j
         → x ≡ handedBy q n counts j → Reported (reportOutcome bs) w w′ x
-    unfolding plannedFor factsOf resultAfter reportAnswer written flatRows
+    unfolding concludedFor factsOf resultAfter reportAnswer written flatRows
     ran-gives w w′ counts _ long (ran m few each x) e =
         let f : finished W (blankings (groundOf q)) (rowsOf W (treeAt trees (n + (n - 1) - 1))) ≡ finished W (blankings (groundOf q)) (rowsOf W (planTree (groundOf q))) =
         ap (λ (E : Tree ℕ). finished W (blankings (groundOf q)) (rowsOf W E)) (last-node counts long few each) in
@@ -260,7 +258,7 @@ module _ (bs : Bytes) {s : StoredQuery} {cells : List ℤ} {r : Report} (read : 
         reported (refused 11) (outcome-11 (eleven-no i (omega (arith, pairs, h)) o)) e f
 
     -- and run by the code
-    pub report-ran : (w w′ : List ℕ) {x : Planned} → StepsRun W s w w′ x → Reported (reportOutcome bs) w w′ x
+    pub report-ran : (w w′ : List ℕ) {x : Concluded} → StepsRun W s w w′ x → Reported (reportOutcome bs) w w′ x
     report-ran w w′ y =
         let same = query-kept k well yes admitted in
         ran-gives w w′ (y .counts) (y .joined) (y .long)

@@ -1,9 +1,7 @@
 // The direct reading of a text: document 01, "The tree read directly".
 use crate::answer::Answer;
 use accept::accept::Outcome;
-use cells::limits::CELL_ROOM;
-use cells::limits::RESULT_ROOM;
-use cells::limits::WORK_ROOM;
+use cells::limits::STEP_ROOM;
 use joins::join::Joined;
 use plan::query::StoredQuery;
 ghost use mathlib.Core.Path.{_≡_};
@@ -73,19 +71,7 @@ pub fn find(text: &[u8], cells: &mut [i32], work: &mut [u16], result: &mut [u16]
         ≡ directCall (now (text .entry)) (record { cells = now (cells .entry); work = now (work .entry); result = now (result .entry) }))
         × (r .tables ≡ widthOf (now (text .entry)) (r .answer)) ⌝ }
 {
-    if work.len() < WORK_ROOM {
-        return Found {
-            answer: Answer::Refused(1),
-            tables: 0,
-        };
-    }
-    if result.len() < RESULT_ROOM {
-        return Found {
-            answer: Answer::Refused(1),
-            tables: 0,
-        };
-    }
-    if cells.len() < CELL_ROOM {
+    if crate::lent::too_little(cells.len(), work.len(), result.len(), STEP_ROOM) {
         return Found {
             answer: Answer::Refused(1),
             tables: 0,

@@ -2,6 +2,7 @@
 pub mod answer;
 pub mod clear;
 pub mod direct;
+mod lent;
 pub mod planned;
 pub mod prepare;
 pub mod report;

@@ -1,51 +1,55 @@
 // What a run hands over: document 01, "The plan".
 use crate::answer::Answer;
 use cells::limits::AREAS;
-use cells::limits::STEPS;
 use joins::join::Joined;
 use plan::facts;
 use plan::facts::Facts;
-use plan::step::Step;
 use plan::steps::StepList;
 use ready::prepared::Prepared;
 use runner::state::Run;
 ghost use mathlib.Core.Path.{_≡_};
 ghost use Prim.Native.Nat.{_≤_};
 ghost use Rattle.cells.specs.Limits.{areas};
-ghost use Rattle.engine.specs.Planning.{turnedDown, withCounts};
-ghost use Rattle.engine.specs.Preparing.{Within, Ends, Concludes, replied};
+ghost use Rattle.engine.specs.Planning.{refusedReply, answeredWith, turnedDown, withCounts};
+ghost use Rattle.engine.specs.Preparing.{Within, Ends, Concludes};
 
-// What a call of the engine hands over: its answer, what stands beside it, and the plan.
+// What a call of the engine hands over by value: its answer, what stands beside it, and the plan.
 pub struct Planned {
     pub answer: Answer,
     pub facts: Facts,
     pub plan: StepList,
 }
 
-// The same where the plan is in a lent list of steps: how many steps it has.
+// What is answered where the plan is in a lent list of steps: the answer, what stands beside it, and how many steps the plan has.
 pub struct Reply {
     pub answer: Answer,
     pub facts: Facts,
     pub count: usize,
 }
 
-// After a refusal there is no table and no step.
-pub fn turned_down(number: u8) -> Planned
-    ensures { λ r. ⌜ r ≡ turnedDown number ⌝ }
+// What a call hands over: what is answered, and the plan that the list of steps is to hold.
+pub struct Concluded {
+    pub reply: Reply,
+    pub plan: StepList,
+}
+
+// A refusal: there is no table and no step.
+pub fn refused(number: u8) -> Reply
+    ensures { λ r. ⌜ r ≡ refusedReply number ⌝ }
 {
-    let zero = Step {
-        kind: 0,
-        first: 0,
-        second: 0,
-        rows: 0,
-        conditions: 0,
-    };
-    let steps = [zero; STEPS];
-    let plan = StepList { steps, count: 0 };
-    Planned {
+    Reply {
         answer: Answer::Refused(number),
         facts: facts::no_facts(),
-        plan,
+        count: 0,
+    }
+}
+
+fn turned_down(number: u8) -> Concluded
+    ensures { λ r. ⌜ r ≡ turnedDown number ⌝ }
+{
+    Concluded {
+        reply: refused(number),
+        plan: plan::steps::no_steps(),
     }
 }
 
@@ -64,9 +68,23 @@ fn with_counts(list: StepList, counts: [u16; AREAS], pairs: usize) -> StepList
     s
 }
 
+// An answer with these rows, and its plan.
+fn answered(rows: usize, facts: Facts, plan: StepList) -> Concluded
+    ensures { λ r. ⌜ r ≡ answeredWith rows facts plan ⌝ }
+{
+    Concluded {
+        reply: Reply {
+            answer: Answer::Rows(rows),
+            facts: facts,
+            count: plan.count,
+        },
+        plan: plan,
+    }
+}
+
 // What a run hands over: the refusal where a question turned the text down or a pair has too many rows; or the rows in the result,
 // how many they are, and the plan with its counts.
-fn hand_over(work: &[u16], result: &mut [u16], p: Prepared, r: Run) -> Planned
+fn hand_over(work: &[u16], result: &mut [u16], p: Prepared, r: Run) -> Concluded
     requires { ⌜ Within p ⌝ }
     ensures { λ x. ⌜ Ends p r (now (work .entry)) (now (result .entry)) (now (result .exit)) x ⌝ }
 {
@@ -82,11 +100,7 @@ fn hand_over(work: &[u16], result: &mut [u16], p: Prepared, r: Run) -> Planned
     let counts = r.counts;
     let found = runner::last::finish_run(work, q, r, result);
     match found {
-        Joined::Rows(n) => Planned {
-            answer: Answer::Rows(n),
-            facts,
-            plan: with_counts(list, counts, pairs),
-        },
+        Joined::Rows(n) => answered(n, facts, with_counts(list, counts, pairs)),
         Joined::TooMany => turned_down(11),
     }
 }
@@ -98,7 +112,7 @@ pub(crate) fn conclude(
     result: &mut [u16],
     p: Prepared,
     r: Run,
-) -> Planned
+) -> Concluded
     requires { ⌜ Within p ⌝ }
     ensures { λ x. ⌜ Concludes p r (now (cells .entry)) (now (cells .exit)) (now (work .entry)) (now (work .exit))
         (now (result .entry)) (now (result .exit)) x ⌝ }
@@ -110,22 +124,15 @@ pub(crate) fn conclude(
 }
 
 // The plan that is handed over.
-pub fn list_of(h: Planned) -> StepList
+pub(crate) fn list_of(h: Concluded) -> StepList
     ensures { λ r. ⌜ r ≡ h .plan ⌝ }
 {
     h.plan
 }
 
-// What is answered where the plan is in a lent list of steps.
-pub fn reply_of(h: Planned) -> Reply
-    ensures { λ r. ⌜ r ≡ replied h ⌝ }
+// What is answered.
+pub(crate) fn reply_of(h: Concluded) -> Reply
+    ensures { λ r. ⌜ r ≡ h .reply ⌝ }
 {
-    let answer = h.answer;
-    let facts = h.facts;
-    let list = h.plan;
-    Reply {
-        answer,
-        facts,
-        count: list.count,
-    }
+    h.reply
 }

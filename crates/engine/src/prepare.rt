@@ -8,7 +8,7 @@ ghost use Rattle.runner.specs.State.{startRun};
 ghost use Rattle.engine.specs.Preparing.{Prepares};
 
 // Questions 2 to 10 of a text. The cell run has the text's cells where it passes questions 2 to 4.
-pub fn prepare(text: &[u8], cells: &mut [i32]) -> Prepared
+pub(crate) fn prepare(text: &[u8], cells: &mut [i32]) -> Prepared
     ensures { λ r. ⌜ Prepares (now (text .entry)) (now (cells .entry)) (now (cells .exit)) r ⌝ }
 {
     let a = accept::accept::accept(text, cells);
@@ -21,7 +21,7 @@ pub fn prepare(text: &[u8], cells: &mut [i32]) -> Prepared
 }
 
 // The state at the start of the run. The plan of a text that was turned away has no steps, so that nothing runs.
-pub fn start_of(p: Prepared) -> Run
+pub(crate) fn start_of(p: Prepared) -> Run
     ensures { λ r. ⌜ r ≡ startRun (p .query) ⌝ }
 {
     runner::state::start(p.query)

@@ -1,52 +1,19 @@
 // The report of a text: document 01, "The plan". The plan is handed over in a lent list of steps, or by value.
-use crate::answer::Answer;
+use crate::lent;
 use crate::planned;
 use crate::planned::Planned;
 use crate::planned::Reply;
 use crate::prepare;
-use cells::limits::CELL_ROOM;
-use cells::limits::RESULT_ROOM;
-use cells::limits::STEP_ROOM;
 use cells::limits::STEPS;
-use cells::limits::WORK_ROOM;
-use plan::facts;
 use plan::step::Step;
 use plan::steps::StepList;
 use ready::prepared;
 ghost use mathlib.Core.Path.{_≡_};
-ghost use mathlib.Core.Bool.{not};
 ghost use lib.ListN.{replicate};
 ghost use Rattle.cells.specs.Limits.{mostSteps};
 ghost use Rattle.plan.specs.Steps.{zeroStep};
 ghost use Rattle.engine.specs.Calls.{reportCall};
-ghost use Rattle.engine.specs.Preparing.{enoughLent, refusedReply, byValue};
-
-// Question 1, by the lengths of what is lent: whether it is too little.
-pub fn too_little(cells: usize, work: usize, result: usize, steps: usize) -> bool
-    ensures { λ r. ⌜ r ≡ not (enoughLent cells work result steps) ⌝ }
-{
-    if work < WORK_ROOM {
-        return true;
-    }
-    if result < RESULT_ROOM {
-        return true;
-    }
-    if cells < CELL_ROOM {
-        return true;
-    }
-    steps < STEP_ROOM
-}
-
-// A refusal.
-pub fn refused(number: u8) -> Reply
-    ensures { λ r. ⌜ r ≡ refusedReply number ⌝ }
-{
-    Reply {
-        answer: Answer::Refused(number),
-        facts: facts::no_facts(),
-        count: 0,
-    }
-}
+ghost use Rattle.engine.specs.Preparing.{byValue};
 
 // The report: what is answered, all lent memory and the lent list of steps are those of `reportCall`, whatever is lent. The plan is
 // laid into the list and run from it; at the end the list has the plan with its counts, or zero steps only.
@@ -67,8 +34,8 @@ pub fn report_into(
         ≡ reportCall (now (text .entry)) (record { cells = now (cells .entry); work = now (work .entry); result = now (result .entry) })
         (now (steps .entry)) ⌝ }
 {
-    if too_little(cells.len(), work.len(), result.len(), steps.len()) {
-        return refused(1);
+    if lent::too_little(cells.len(), work.len(), result.len(), steps.len()) {
+        return planned::refused(1);
     }
     let p = prepare::prepare(text, cells);
     let list = prepared::plan_of(p);
@@ -83,7 +50,7 @@ pub fn report_into(
 }
 
 // What is handed over by value, with these steps.
-pub fn by_value(r: Reply, steps: [Step; STEPS]) -> Planned
+pub(crate) fn by_value(r: Reply, steps: [Step; STEPS]) -> Planned
     ensures { λ x. ⌜ x ≡ byValue r steps ⌝ }
 {
     let answer = r.answer;

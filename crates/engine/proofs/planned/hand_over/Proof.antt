@@ -33,6 +33,9 @@ with-counts-requires c κs =
     let h = i .before .before .before .before .pre (i .if1 .left) .1 in
     search needs
 
+answered-requires : tie.Need-answered-requires
+answered-requires c κs = search needs
+
 enum-told : tie.Need-enum-told
 enum-told c = search needs
 
@@ -44,11 +47,12 @@ same-length c = search needs
 
 returns-2 : tie.Need-returns-2
 returns-2 c =
-    let f = c .before .before .before .before .before .before in
+    let n = c .before in
+    let f = n .before .before .before .before .before .before in
     let i = f .before .before .before .before .before .before .before in
     let s = i .before .before .before .before in
     let l : length (s .args .r .counts) ≡ 8 = sym (length-map (s .args .r .counts) _) ∙ s .good .1 .1 .1 .0 .1 .1 .1 .0 .1 .0 .1 in
-    ends-rows (i .if1 .left) l (f .finish-run .ensures) _ (c .before .before .found .given .1) (c .with-counts .ensures)
+    ends-rows (i .if1 .left) l (f .finish-run .ensures) _ (n .before .before .found .given .1) (c .answered .ensures) (n .with-counts .ensures)
 
 same-length-2 : tie.Need-same-length-2
 same-length-2 c = search needs
@@ -72,6 +76,7 @@ hand-over-spec =
     finish-run-requires
     enum-known-found
     with-counts-requires
+    answered-requires
     enum-told
     turned-down-requires-2
     same-length

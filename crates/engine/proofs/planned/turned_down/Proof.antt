@@ -1,17 +1,18 @@
--- `engine::planned::turned_down` meets its contract: no table and no step. Assumes nothing.
-use Rattle.plan.specs.Steps.{zeroStep}
-use Rattle.plan.specs.StepWords.{listed}
+-- `engine::planned::turned_down` meets its contract: a refusal, and a plan without steps. Assumes nothing.
 use Rattle.engine.specs.Planning.{turnedDown}
 use borrow.Author.Needs.{needs}
 use Rattle.engine.proofs.planned.turned_down.Statement.{statement}
 use Rattle.engine.proofs.planned.turned_down.Tie as tie
 
-no-facts-requires : tie.Need-no-facts-requires
-no-facts-requires c κs = search needs
+refused-requires : tie.Need-refused-requires
+refused-requires c κs = search needs
+
+no-steps-requires : tie.Need-no-steps-requires
+no-steps-requires c κs = search needs
 
 returns : tie.Need-returns
-unfolding turnedDown listed zeroStep
-returns c = rw (c .no-facts .ensures)
+unfolding turnedDown
+returns c = rw (c .before .refused .ensures, c .no-steps .ensures)
 
 pub turned-down-spec : {M : Type 1} → statement M
-turned-down-spec = tie.close (tie.spec no-facts-requires returns)
+turned-down-spec = tie.close (tie.spec refused-requires no-steps-requires returns)

@@ -79,22 +79,23 @@ use Rattle.engine.proofs.prepare.start_of as start
 use Rattle.engine.proofs.prepare.start_of.Symbol as start-def
 use Rattle.engine.proofs.prepare.start_of.Met as start-thm
 use Rattle.engine.specs.Calls.{reportCall}
-use Rattle.engine.specs.Preparing.{enoughLent, refusedReply, Within, Prepares, Concludes, replied}
+use Rattle.engine.specs.Planning.{refusedReply}
+use Rattle.engine.specs.Preparing.{enoughLent, Within, Prepares, Concludes}
 use Rattle.engine.specs.ReportCode.{asCall, prepared-within, report-short, report-done}
 use Rattle.engine.specs.declared.planned.Reply.{Reply}
-use Rattle.engine.specs.declared.planned.Planned.{Planned}
+use Rattle.engine.specs.declared.planned.Concluded.{Concluded}
 use Rattle.engine.proofs.planned.Reply as A₁
 use Rattle.engine.proofs.planned.Reply.Laws as A₁′
-use Rattle.engine.proofs.planned.Planned as X
-use Rattle.engine.proofs.planned.Planned.Laws as X′
+use Rattle.engine.proofs.planned.Concluded as X
+use Rattle.engine.proofs.planned.Concluded.Laws as X′
 use Rattle.runner.proofs.Calls.{asks-one, passes, gives}
 use Rattle.runner.proofs.Lending.{Has, Gone, Token, Kept, KeptShown, Lent, lends, comes, Shown, shows, seen, lets-go}
-use Rattle.engine.proofs.report.too_little as short
-use Rattle.engine.proofs.report.too_little.Symbol as short-def
-use Rattle.engine.proofs.report.too_little.Met as short-thm
-use Rattle.engine.proofs.report.refused as refuse
-use Rattle.engine.proofs.report.refused.Symbol as refuse-def
-use Rattle.engine.proofs.report.refused.Met as refuse-thm
+use Rattle.engine.proofs.lent.too_little as short
+use Rattle.engine.proofs.lent.too_little.Symbol as short-def
+use Rattle.engine.proofs.lent.too_little.Met as short-thm
+use Rattle.engine.proofs.planned.refused as refuse
+use Rattle.engine.proofs.planned.refused.Symbol as refuse-def
+use Rattle.engine.proofs.planned.refused.Met as refuse-thm
 use Rattle.engine.proofs.prepare.prepare as prep
 use Rattle.engine.proofs.prepare.prepare.Symbol as prep-def
 use Rattle.engine.proofs.prepare.prepare.Met as prep-thm
@@ -129,8 +130,8 @@ abbrev τ-plan : Ty
 abbrev τ-query : Ty
 τ-query = spell body.table (pointee (Q.the-row .written))
 
-abbrev τ-planned : Ty
-τ-planned = spell body.table (pointee (X.the-row .written))
+abbrev τ-concluded : Ty
+τ-concluded = spell body.table (pointee (X.the-row .written))
 
 -- machine values, and the relations to them
 abbrev prep-val : Prepared → Val
@@ -145,8 +146,8 @@ run-val r = LL.val R.the-type R′.the-laws r
 abbrev plan-val : StepList → Val
 plan-val s = LL.val L.the-type L′.the-laws s
 
-abbrev planned-val : Planned → Val
-planned-val x = LL.val X.the-type X′.the-laws x
+abbrev concluded-val : Concluded → Val
+concluded-val x = LL.val X.the-type X′.the-laws x
 
 abbrev PrepIs : Prepared → Type 0
 PrepIs p = Is P.the-row p (prep-val p ∷ [])
@@ -386,12 +387,12 @@ module _ {M : Type 1} (𝓤 : URA M) (H : Heap 𝓤) (A : Atoms 𝓤) (W : Given
     to-start = ((tt, tt, tt, (p, tt), (prep-val p ∷ [], tt)), tt)
 
   -- and of what is handed over
-  module _ (x : Planned) where
+  module _ (x : Concluded) where
     abbrev to-list : ListOf 𝓤 H A mem run .Ghost
-    to-list = ((tt, tt, tt, (x, tt), (planned-val x ∷ [], tt)), tt)
+    to-list = ((tt, tt, tt, (x, tt), (concluded-val x ∷ [], tt)), tt)
 
     abbrev to-reply : ReplyOf 𝓤 H A mem run .Ghost
-    to-reply = ((tt, tt, tt, (x, tt), (planned-val x ∷ [], tt)), tt)
+    to-reply = ((tt, tt, tt, (x, tt), (concluded-val x ∷ [], tt)), tt)
 
   -- ---- `put_plan`, at the lifetime κ, the share q, the name δ, the list l and the plan s
 
@@ -507,7 +508,7 @@ module _ {M : Type 1} (𝓤 : URA M) (H : Heap 𝓤) (A : Atoms 𝓤) (W : Given
 
       -- what it gives: the result with the machine value u, and the last lists
       abbrev Lists : Type 0
-      Lists = Planned × (List ℤ × (List ℕ × List ℕ))
+      Lists = Concluded × (List ℤ × (List ℕ × List ℕ))
 
       abbrev End-said : Val → Lists → Type 0
       End-said u z = Concludes p r c (z .1 .0) w (z .1 .1 .0) v₀ (z .1 .1 .1) (z .0) × Is X.the-row (z .0) (u ∷ []) × (length (z .1 .0) ≡ length c) × (length (z .1 .1 .0) ≡ length w) × (length (z .1 .1 .1) ≡ length v₀)
@@ -609,7 +610,7 @@ module _ {M : Type 1} (𝓤 : URA M) (H : Heap 𝓤) (A : Atoms 𝓤) (W : Given
         use1 W (later (some (λ (z : Lists p p-is c (e₁ .2) is₇ is₈ r r-is w). (CellsGone (z .1 .0) ⊛ WorkGone (z .1 .1 .0) ⊛ ResultGone (z .1 .1 .1)) ⊛ raw (fact 𝓤 (End-said p p-is c (e₁ .2) is₇ is₈ r r-is w u₄ z))))) (gave-end p p-is c (e₁ .2) is₇ is₈ r r-is w u₄) $ await ! tt $ pick ! (λ z₄. split ! $ move ! (1 ∷ []) $ heard ! (End-said p p-is c (e₁ .2) is₇ is₈ r r-is w u₄ z₄) (λ e₄. split ! $ move ! (1 ∷ []) $ split ! $
         let x = z₄ .0 in let x-is = subst (Is X.the-row x) (LL.tells X.the-type X′.the-laws x _ (e₄ .1)) (e₄ .1) in
         -- [work; result; cells; steps; text; _36; …]
-        land ! (from ! (stop !)) (init ! 55 refl (LL.lawful X.the-type X′.the-laws 𝓤 H A W .typed x _ (e₄ .1) .0)) $ rewrite ! 55 (λ (v : Val). ‵ (fat fullShare τ-planned l11 0 v)) (ap only (LL.tells X.the-type X′.the-laws x _ (e₄ .1))) refl $
+        land ! (from ! (stop !)) (init ! 55 refl (LL.lawful X.the-type X′.the-laws 𝓤 H A W .typed x _ (e₄ .1) .0)) $ rewrite ! 55 (λ (v : Val). ‵ (fat fullShare τ-concluded l11 0 v)) (ap only (LL.tells X.the-type X′.the-laws x _ (e₄ .1))) refl $
         use0 W (raw (ListOf 𝓤 H A mem run .pre (to-list x))) (asks-one W X.the-row (LL.makes X.the-type X′.the-plain 𝓤 H A) x _ x-is) $
         calls-at ! fm (ListOf 𝓤 H A mem run) known-list (to-list x) (and-then ! (load ! (from ! (stop !)) (look ! 56 refl)) (no-more !)) (λ u₉.
         answers W ! tt list.ended (list.clauses 𝓤 H A mem run) (to-list x) u₉ (λ z. z ≡ x .plan) (λ z e. id⊢ 𝓤 _) (λ z₉ e₉ z-is₉. let v-is₉ = subst (λ z. Is L.the-row z (u₉ ∷ [])) e₉ z-is₉ in let is₉ = subst (Is L.the-row (x .plan)) (LL.tells L.the-type L′.the-laws (x .plan) _ v-is₉) v-is₉ in drop ! $ drop ! $
@@ -625,7 +626,7 @@ module _ {M : Type 1} (𝓤 : URA M) (H : Heap 𝓤) (A : Atoms 𝓤) (W : Given
         land ! (from ! (stop !)) (store ! 37 refl (nothing-lawful 𝓤 H A W .typed tt _ (e₅ .1) .0)) $
         use0 W (raw (ReplyOf 𝓤 H A mem run .pre (to-reply x))) (asks-one W X.the-row (LL.makes X.the-type X′.the-plain 𝓤 H A) x _ x-is) $
         calls-at ! fm (ReplyOf 𝓤 H A mem run) known-reply (to-reply x) (and-then ! (load ! (from ! (stop !)) (look ! 56 refl)) (no-more !)) (λ u.
-        answers W ! tt reply.ended (reply.clauses 𝓤 H A mem run) (to-reply x) u (λ y. y ≡ replied x) (λ y e. id⊢ 𝓤 _) (λ y y-by y-is. drop ! $ drop ! $
+        answers W ! tt reply.ended (reply.clauses 𝓤 H A mem run) (to-reply x) u (λ y. y ≡ x .reply) (λ y e. id⊢ 𝓤 _) (λ y y-by y-is. drop ! $ drop ! $
         land ! (from ! (stop !)) (init ! 77 refl (LL.lawful A₁.the-type A₁′.the-laws 𝓤 H A W .typed y _ y-is .0)) $
         returns ! (look ! 77 refl) $
         forget ! 5 refl $ forget ! 7 refl $ forget ! 9 refl $ forget ! 11 refl $ forget ! 13 refl $ forget ! 15 refl $ forget ! 17 refl $ forget ! 19 refl $ forget ! 21 refl $ forget ! 23 refl $ forget ! 25 refl $ forget ! 27 refl $ forget ! 29 refl $ forget ! 31 refl $ forget ! 33 refl $ forget ! 35 refl $ forget ! 37 refl $ forget ! 39 refl $ forget ! 41 refl $ forget ! 43 refl $ forget ! 45 refl $ forget ! 47 refl $ forget ! 49 refl $ forget ! 51 refl $ forget ! 53 refl $ forget ! 55 refl $ forget ! 57 refl $ forget ! 59 refl $ forget ! 61 refl $ forget ! 63 refl $ forget ! 65 refl $ forget ! 67 refl $ forget ! 69 refl $ forget ! 71 refl $ forget ! 73 refl $ forget ! 75 refl $ forget ! 77 refl $
@@ -649,8 +650,8 @@ report-into-spec 𝓤 H 𝓜 𝓖 𝓡 =
     (a .0) (a .1 .0 .ptr .0) (a .1 .0 .ptr .1) (a .1 .0 .name) (a .1 .0 .now) (a .1 .1 .0 .ptr .0) (a .1 .1 .0 .ptr .1) (a .1 .1 .0 .name) (a .1 .1 .0 .now) (a .1 .1 .1 .0 .ptr .0) (a .1 .1 .1 .0 .ptr .1) (a .1 .1 .1 .0 .name) (a .1 .1 .1 .0 .now)
     (a .1 .1 .1 .1 .0 .ptr .0) (a .1 .1 .1 .1 .0 .ptr .1) (a .1 .1 .1 .1 .0 .name) (a .1 .1 .1 .1 .0 .now) (are .0 .0 .1) (are .1 .0 .0 .1) (are .1 .1 .0 .0 .1) (are .1 .1 .1 .0 .0 .1) (are .1 .1 .1 .1 .0 .0 .1)
     (tables 𝓤 H 𝓜 𝓡 code.env .C) (tables 𝓤 H 𝓜 𝓡 code.env .Λ) (framed 𝓤 H 𝓜 𝓖 𝓡 code.env)
-    (known 𝓤 H 𝓜 𝓖 𝓡 code.env (Short 𝓤 H A (𝓜 .mem) (𝓡 .run)) short-def.name short-def.routine code.calls-engine·report·too-little (short-thm.met 𝓤 H 𝓜 𝓖 𝓡))
-    (known 𝓤 H 𝓜 𝓖 𝓡 code.env (Refuse 𝓤 H A (𝓜 .mem) (𝓡 .run)) refuse-def.name refuse-def.routine code.calls-engine·report·refused (refuse-thm.met 𝓤 H 𝓜 𝓖 𝓡))
+    (known 𝓤 H 𝓜 𝓖 𝓡 code.env (Short 𝓤 H A (𝓜 .mem) (𝓡 .run)) short-def.name short-def.routine code.calls-engine·lent·too-little (short-thm.met 𝓤 H 𝓜 𝓖 𝓡))
+    (known 𝓤 H 𝓜 𝓖 𝓡 code.env (Refuse 𝓤 H A (𝓜 .mem) (𝓡 .run)) refuse-def.name refuse-def.routine code.calls-engine·planned·refused (refuse-thm.met 𝓤 H 𝓜 𝓖 𝓡))
     (known 𝓤 H 𝓜 𝓖 𝓡 code.env (Prep 𝓤 H A (𝓜 .mem) (𝓡 .run)) prep-def.name prep-def.routine code.calls-engine·prepare·prepare (prep-thm.met 𝓤 H 𝓜 𝓖 𝓡))
     (known 𝓤 H 𝓜 𝓖 𝓡 code.env (Put 𝓤 H A (𝓜 .mem) (𝓡 .run)) put-def.name put-def.routine code.calls-runner·list·put-plan (put-thm.met 𝓤 H 𝓜 𝓖 𝓡))
     (known 𝓤 H 𝓜 𝓖 𝓡 code.env (PlanOf 𝓤 H A (𝓜 .mem) (𝓡 .run)) plan-def.name plan-def.routine code.calls-ready·prepared·plan-of (plan-thm.met 𝓤 H 𝓜 𝓖 𝓡))

@@ -1,8 +1,8 @@
--- `engine::report::refused` meets its contract: no table and no step. Assumes nothing.
-use Rattle.engine.specs.Preparing.{refusedReply}
+-- `engine::planned::refused` meets its contract: no table and no step. Assumes nothing.
+use Rattle.engine.specs.Planning.{refusedReply}
 use borrow.Author.Needs.{needs}
-use Rattle.engine.proofs.report.refused.Statement.{statement}
-use Rattle.engine.proofs.report.refused.Tie as tie
+use Rattle.engine.proofs.planned.refused.Statement.{statement}
+use Rattle.engine.proofs.planned.refused.Tie as tie
 
 no-facts-requires : tie.Need-no-facts-requires
 no-facts-requires c κs = search needs

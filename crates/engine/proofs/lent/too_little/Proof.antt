@@ -1,8 +1,8 @@
--- `engine::report::too_little` meets its contract: question 1, one length after another. Assumes nothing.
+-- `engine::lent::too_little` meets its contract: question 1, one length after another. Assumes nothing.
 use Rattle.engine.specs.PreparingLaws.{short-work, short-result, short-cells, short-steps}
 use borrow.Author.Needs.{needs}
-use Rattle.engine.proofs.report.too_little.Statement.{statement}
-use Rattle.engine.proofs.report.too_little.Tie as tie
+use Rattle.engine.proofs.lent.too_little.Statement.{statement}
+use Rattle.engine.proofs.lent.too_little.Tie as tie
 
 returns : tie.Need-returns
 returns c = short-work _ _ _ _ (search needs)
