@@ -1,8 +1,6 @@
 // A query made ready for its run: questions 9 and 10, the sets and the plan.
-use cells::limits::STEPS;
 use cells::limits::TABLES;
 use plan::query::StoredQuery;
-use plan::step::Step;
 use plan::steps::StepList;
 ghost use mathlib.Core.Path.{_≡_};
 ghost use lib.Dec.{T};
@@ -23,19 +21,10 @@ pub struct Prepared {
 pub fn turned_away(q: StoredQuery, number: u8) -> Prepared
     ensures { λ r. ⌜ r ≡ turnedAway q number ⌝ }
 {
-    let zero = Step {
-        kind: 0,
-        first: 0,
-        second: 0,
-        rows: 0,
-        conditions: 0,
-    };
-    let steps = [zero; STEPS];
-    let plan = StepList { steps, count: 0 };
     Prepared {
         number,
         sets: [0u64; TABLES],
-        plan,
+        plan: plan::steps::no_steps(),
         query: q,
     }
 }
