@@ -1,6 +1,6 @@
 -- Demand 3 over calls: what the two routines hand over for two texts with the same query, whatever is lent to them, as long as question 1
 -- does not turn it down. Assumes nothing.
-use mathlib.Core.Path.{_≡_, refl, sym, ap, _∙_, subst}
+use mathlib.Core.Path.{_≡_, refl, sym, ap, subst}
 use mathlib.Core.Bool.{Bool, true, false}
 use mathlib.Core.List.{List}
 use Prim.Native.Nat.{ℕ}
@@ -11,11 +11,10 @@ use Rattle.plan.specs.Facts.{noFacts}
 use Rattle.plan.specs.declared.step.Step.{Step}
 use Rattle.text.specs.Bytes.{Bytes}
 use Rattle.text.specs.Lines.{Line}
-use Rattle.engine.specs.Answers.{Outcome, refused, answered, ReportAnswer, reportOutcome, directOutcome}
+use Rattle.engine.specs.Answers.{reportOutcome, directOutcome}
 use Rattle.engine.specs.Calls.{Lent, cleared, question1, question1Direct, written, ReportCall, reportAfter, reportCall, DirectCall, directAfter, directCall}
 use Rattle.engine.specs.Demand3.{SameQuery}
 use Rattle.engine.specs.Demand3Proof.{RunsAgree, direct-limit, report-limit, both-answer, runs-agree}
-use Rattle.engine.specs.declared.answer.Answer.{Answer}
 use Rattle.engine.specs.declared.answer.Answer.the-variants.{Rows, Refused}
 
 -- One of the two calls answers 11, or both answer the same count of rows and write the same rows at the front of their result buffers

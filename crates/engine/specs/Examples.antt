@@ -1,15 +1,13 @@
 -- Demand 3 is not empty: document 01's report with its order changed and a list of steps that is not the engine's own, computed. And why
 -- question 8 stands among the assumptions: a report that it turns down whose two runs differ. Assumes nothing.
-use mathlib.Core.Path.{_≡_, refl, sym, _∙_}
-use mathlib.Core.Bool.{true}
+use mathlib.Core.Path.{_≡_, refl}
 use mathlib.Core.List.{List, [], _∷_}
-use mathlib.Core.Option.{Option, none, some}
+use mathlib.Core.Option.{none, some}
 use Prim.Native.Nat.{ℕ}
 use lib.Dec.{T}
-use Rattle.cells.specs.Row.{Row}
 use Rattle.rows.specs.Nullification.{Blanking}
 use Rattle.plan.specs.Asking.{firstNo, sharedQuestions, orderQuestions}
-use Rattle.plan.specs.Report.{Report, queryOf}
+use Rattle.plan.specs.Report.{queryOf}
 use Rattle.plan.specs.Plan.{groundOf, blankings}
 use Rattle.plan.specs.StepLists.{StepList, isStepList, step-list}
 use Rattle.text.specs.Bytes.{Bytes}

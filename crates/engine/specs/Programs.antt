@@ -1,5 +1,5 @@
 -- What the two programs print: document 01, "The whole print of one report". Assumes nothing.
-use mathlib.Core.List.{List, [], _∷_, _++_, flatMap}
+use mathlib.Core.List.{List, _++_, flatMap}
 use Rattle.cells.specs.Row.{Row}
 use Rattle.text.specs.Bytes.{Bytes}
 use Rattle.text.specs.Print.{printSets, printStep, printRow, printRefusal}

@@ -1,7 +1,6 @@
 -- The starred trials of document 01, as one list under one proof that antt computes. Assumes nothing.
 -- In a `text`, | is a tab and a space parts two lines, as document 01 shows them; the last line is closed too.
 use mathlib.Core.Path.{_≡_, refl}
-use mathlib.Core.Bool.{Bool}
 use mathlib.Core.List.{List, [], _∷_, map}
 use Prim.Native.Nat.{ℕ}
 use Prim.Native.Char.{code}

@@ -1,14 +1,12 @@
 -- Demand 3 over a report: both runs of an accepted report give the same rows. Assumes nothing.
-use mathlib.Core.Path.{_≡_, refl, sym, ap, _∙_}
-use mathlib.Core.List.{List, map}
+use mathlib.Core.Path.{_≡_, refl}
+use mathlib.Core.List.{List}
 use Prim.Native.Nat.{ℕ, _≤_}
 use lib.Dec.{T}
-use Rattle.cells.specs.Row.{Row, blankRow}
+use Rattle.cells.specs.Row.{blankRow}
 use Rattle.cells.specs.declared.condition.Condition.{Condition}
-use Rattle.rows.specs.Rows.{ordered}
-use Rattle.rows.specs.Trees.{rowsOf}
 use Rattle.rows.specs.Due.{Reads, direct-reading}
-use Rattle.rows.specs.Nullification.{Blanking, planRows}
+use Rattle.rows.specs.Nullification.{Blanking}
 use Rattle.plan.specs.Report.{Table, Join, Report, queryOf, tableCount, tableNumbers, conditionAt}
 use Rattle.plan.specs.Plan.{groundOf}
 use Rattle.plan.specs.Nodes.{treesOf, joinTrees, joinTree}

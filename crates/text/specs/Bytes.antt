@@ -6,7 +6,6 @@ use Prim.Native.Nat.{ℕ}
 use Prim.Native.Char.{code}
 use Prim.Native.String.{String, [] as []ˢ, _∷_ as _∷ˢ_}
 use lib.Dec.{eqb}
-use Rattle.cells.specs.Choice.{if_then_else_}
 
 abbrev pub Bytes : Type 0
 Bytes = List ℕ

@@ -1,5 +1,4 @@
 -- `engine::direct::find` meets its contract: question 1, the text read, lent memory cleared. Assumes nothing.
-use borrow.Author.Tests.{not-true, not-false}
 use Rattle.engine.specs.DirectCode.{no-width, short-work, short-result, short-cells, direct-done}
 use lib.ListN.{length}
 use borrow.Author.Needs.{needs}

@@ -1,5 +1,5 @@
 -- `load::cell_run::put` meets its contract: nothing is kept past the run's end. Assumes nothing.
-use mathlib.Core.Path.{_≡_, refl, ap, sym, _∙_}
+use mathlib.Core.Path.{sym}
 use lib.Seq.{set-out}
 use borrow.Author.Needs.{needs}
 use Rattle.load.proofs.cell_run.put.Statement.{statement}

@@ -1,12 +1,12 @@
 -- `load::cell_run::put_cells` meets its contract: the cells of what is left, put behind those before them, are the text's cells. Assumes nothing.
-use mathlib.Core.Path.{_≡_, refl, ap, sym, _∙_}
+use mathlib.Core.Path.{_≡_, refl, ap}
 use native.Mathlib.Omega.{arith}
 use Prim.Native.Nat.{_+_, _≤_, _-_}
 use borrow.Author.Needs.{needs}
 use Rattle.cells.specs.Limits.{mostBytes}
-use lib.ListN.{length, take, drop}
+use lib.ListN.{length, drop}
 use Rattle.text.specs.Bytes.{lineFeed}
-use Rattle.load.specs.Cells.{textCells, linesCells, lineParts, laid, behind, cells-here, cells-past, cells-all, laid-stop, laid-run, part-short}
+use Rattle.load.specs.Cells.{textCells, linesCells, lineParts, laid, cells-here, cells-past, cells-all, laid-stop, laid-run, part-short}
 use Rattle.load.proofs.cell_run.put_cells.Statement.{statement}
 use Rattle.load.proofs.cell_run.put_cells.Tie as tie
 

@@ -1,5 +1,5 @@
 -- `load::cell_run::put_line` meets its contract: a line that is no D line writes nothing. Assumes nothing.
-use mathlib.Core.Path.{_≡_, refl, ap, sym, _∙_}
+use mathlib.Core.Path.{ap, sym, _∙_}
 use native.Mathlib.Omega.{arith}
 use Rattle.load.specs.Cells.{laid, behind, laid-none, behind-none, line-empty, line-other, line-row}
 use borrow.Author.Needs.{needs}

@@ -1,5 +1,5 @@
 -- `text::field::constant_at` meets its contract: the field up to the next tab, read as a whole. Assumes nothing.
-use mathlib.Core.Path.{_≡_, ap, sym, _∙_}
+use mathlib.Core.Path.{ap, sym, _∙_}
 use Rattle.text.specs.Fields.{field-past, field-some, field-bad}
 use Rattle.text.specs.Numbers.{ifMade}
 use Rattle.text.specs.Numbers.{constant}

@@ -1,6 +1,4 @@
 -- `text::field::kind_at` meets its contract: a field of one byte, I or L. Assumes nothing.
-use mathlib.Core.Path.{_≡_, ap, sym, _∙_}
-use native.Mathlib.Omega.{arith}
 use Rattle.text.specs.Fields.{kind-past, kind-long, kind-inner, kind-left, kind-other}
 use Rattle.text.specs.Bytes.{tab}
 use borrow.Author.Needs.{needs}

@@ -1,5 +1,5 @@
 -- `text::field::pair_at` meets its contract: one number field and then another. Assumes nothing.
-use mathlib.Core.Path.{_≡_, ap, sym, _∙_}
+use mathlib.Core.Path.{ap, sym, _∙_}
 use Rattle.text.specs.FieldAnswers.{numberAt}
 use Rattle.text.specs.Fields.{pair-first, pair-second, pair-both}
 use borrow.Author.Needs.{needs}

@@ -1,5 +1,5 @@
 -- `text::line::column_line` meets its contract: a column, an operator, a column of a table, and then the line's end. Assumes nothing.
-use mathlib.Core.Path.{_≡_, ap, sym, _∙_}
+use mathlib.Core.Path.{ap, sym, _∙_}
 use Rattle.text.specs.FieldAnswers.{pairAt, operatorAt}
 use Rattle.text.specs.Forms.{column-none, column-no-operator, column-no-side, column-end, end-here, end-more}
 use borrow.Author.Needs.{needs}

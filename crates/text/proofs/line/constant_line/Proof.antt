@@ -1,5 +1,5 @@
 -- `text::line::constant_line` meets its contract: a column, an operator, a constant, and then the line's end. Assumes nothing.
-use mathlib.Core.Path.{_≡_, ap, sym, _∙_}
+use mathlib.Core.Path.{ap, sym, _∙_}
 use Rattle.text.specs.FieldAnswers.{pairAt, operatorAt, constantAt}
 use Rattle.text.specs.Forms.{field-fits, constant-none, constant-no-operator, constant-no-side, constant-end, end-here, end-more}
 use Rattle.cells.proofs.Ints.{back}

@@ -1,5 +1,5 @@
 -- `text::line::join_line` meets its contract: a kind, two nodes, and then the line's end. Assumes nothing.
-use mathlib.Core.Path.{_≡_, ap, sym, _∙_}
+use mathlib.Core.Path.{ap, sym, _∙_}
 use Rattle.text.specs.FieldAnswers.{kindAt, pairAt}
 use Rattle.text.specs.Forms.{join-none, join-no-sides, join-more, join-end, end-here, end-more}
 use borrow.Author.Needs.{needs}

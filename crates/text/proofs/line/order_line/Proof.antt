@@ -1,5 +1,5 @@
 -- `text::line::order_line` meets its contract: two nodes, and then the line's end. Assumes nothing.
-use mathlib.Core.Path.{_≡_, ap, sym, _∙_}
+use mathlib.Core.Path.{ap, sym, _∙_}
 use Rattle.text.specs.FieldAnswers.{pairAt}
 use Rattle.text.specs.Forms.{order-none, order-end, end-here, end-more}
 use borrow.Author.Needs.{needs}

@@ -1,5 +1,5 @@
 -- `text::line::read_line` meets its contract: one law for each letter. Assumes nothing.
-use mathlib.Core.Path.{_≡_, ap, _∙_}
+use mathlib.Core.Path.{ap, _∙_}
 use Rattle.text.specs.Bytes.{tab}
 use Rattle.text.specs.Forms.{lineRead}
 use Rattle.text.specs.Letters.{line-T, line-D, line-J, line-C, line-K, line-P, line-long, line-other}

@@ -1,5 +1,5 @@
 -- `text::line::table_line` meets its contract: the count, and then the line's end. Assumes nothing.
-use mathlib.Core.Path.{_≡_, ap, sym, _∙_}
+use mathlib.Core.Path.{ap, sym, _∙_}
 use Rattle.text.specs.FieldAnswers.{numberAt}
 use Rattle.text.specs.Forms.{table-none, table-end, end-here, end-more}
 use borrow.Author.Needs.{needs}

@@ -1,5 +1,5 @@
 -- `text::number::cell_number` meets its contract: a minus sign alone is blank. Assumes nothing.
-use mathlib.Core.Path.{_≡_, ap, sym, _∙_}
+use mathlib.Core.Path.{_∙_}
 use Rattle.text.specs.Numbers.{ifMade}
 use Rattle.cells.specs.Cell.{blankCell}
 use Rattle.text.specs.Ranges.{cell-blank, cell-long, cell-other}

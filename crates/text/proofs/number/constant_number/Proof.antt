@@ -1,5 +1,5 @@
 -- `text::number::constant_number` meets its contract: by the first byte, a minus sign or not. Assumes nothing.
-use mathlib.Core.Path.{_≡_, ap, sym, _∙_}
+use mathlib.Core.Path.{_∙_}
 use Rattle.text.specs.Numbers.{ifMade}
 use Rattle.text.specs.Ranges.{constant-empty, constant-minus, constant-plain}
 use borrow.Author.Needs.{needs}

@@ -1,5 +1,5 @@
 -- `text::number::small_number` meets its contract: four digits are at most 9,999. Assumes nothing.
-use mathlib.Core.Path.{_≡_, ap, sym, _∙_}
+use mathlib.Core.Path.{ap, sym, _∙_}
 use native.Mathlib.Omega.{arith}
 use Rattle.text.specs.Answers.{naturalIn}
 use Rattle.text.specs.Digits.{small-long, small-short, atMost-bound}
