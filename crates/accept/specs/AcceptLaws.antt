@@ -1,12 +1,13 @@
 -- The code's answers to questions 2 to 8 are those on the report. Assumes nothing.
-use mathlib.Core.Path.{_≡_, sym, ap, _∙_}
+use mathlib.Core.Path.{_≡_, sym, ap, _∙_, subst}
 use mathlib.Core.Bool.{Bool, true, false, _&&_}
 use mathlib.Core.List.{List}
 use mathlib.Core.Option.{Option, none, some}
 use Prim.Native.Nat.{ℕ, _≤_}
 use native.Mathlib.Omega.{arith}
-use lib.Dec.{leb}
+use lib.Dec.{T, leb}
 use lib.IntN.{ℤ}
+use mir.Facts.{and-yes}
 use Rattle.cells.specs.BoolLaws.{clash}
 use Rattle.cells.specs.Limits.{mostTables, mostJoins, mostWritten}
 use Rattle.plan.specs.Report.{Report, queryOf}
@@ -40,6 +41,9 @@ module _ (s : StoredQuery) (t : s .«table_count» ≤ mostTables) {b : Bool} (e
   module _ (f : b ≡ true) where
     pub joins-room : s .«join_count» ≤ mostJoins
     joins-room = room-of (s .«join_count») mostJoins (question5 (queryIn s)) (sym e ∙ f)
+
+    pub joins-built : T (question5 (queryIn s))
+    joins-built = and-yes (leb (s .«join_count») mostJoins) (question5 (queryIn s)) (subst T (sym (sym e ∙ f)) tt) .1
 
     yes-5 : {cells : List ℤ} {r : Report} → Stands s cells r → question5 (queryOf r) ≡ true
     yes-5 k = sym (whole-five k) ∙ sym e ∙ f

@@ -1,82 +1,68 @@
--- Laws of the trees over words: their tables and right sides, join after join; question 8 of one join. Assumes nothing.
+-- Laws of the trees over words: the right sides of their outer joins, join after join; question 8 of one join. Assumes nothing.
 use mathlib.Core.Path.{_≡_, refl, sym, ap, ap₂, _∙_, subst}
-use mathlib.Core.Logic.{_⊎_, ⊎-elim, by-cases}
+use mathlib.Core.Logic.{⊎-elim, by-cases}
 use mathlib.Core.Bool.{Bool, true, false, not, _&&_}
-use mathlib.Core.List.{List, [], _∷_, _++_, map, map-append}
-use Prim.Native.Nat.{ℕ, zero, suc, _+_, _^_, _<_, _≤_}
+use mathlib.Core.List.{List, [], _∷_, _++_, map}
+use Prim.Native.Nat.{ℕ, zero, suc, _+_, _<_, _≤_}
 use native.Mathlib.Omega.{arith}
-use lib.Bits.{bitAnd, bitOr, or-zero-r}
+use lib.Bits.{bitAnd, bitOr}
 use lib.Dec.{T, eqb, ltb, T-not, not-T}
 use lib.ListN.{length, getD, set, take, drop, replicate, length-map, drop-of-length-le, List·getD-eq-default}
 use lib.Seq.{drop-cons, length-take-le}
 use native.Mathlib.Numerals.{add-one}
-use mir.Facts.{ltb-yes, ltb-no, yes-ltb, eqb-yes, yes-eqb}
+use mir.Facts.{and-yes, yes-ltb, eqb-yes, yes-eqb}
 use Rattle.cells.specs.Limits.{mostTables, mostJoins, mostNodes}
 use Rattle.cells.specs.BoolLaws.{same-test}
 use Rattle.rows.specs.Lists.{range, all, any, has}
 use Rattle.rows.specs.ListLaws.{_isIn_, here, there, decT, append-left, append-right}
-use Rattle.rows.specs.ListLaws.{append-elim, any-elim, any-intro, has-elim, has-intro, keep-elim, keep-intro, length-range}
+use Rattle.rows.specs.ListLaws.{append-elim, any-elim, any-intro, has-elim, has-intro, keep-elim, keep-intro, length-range, getD-range}
 use Rattle.rows.specs.Trees.{Tree, leaf, join, tablesUnder}
 use Rattle.rows.specs.declared.kind.Kind.{Kind}
 use Rattle.rows.specs.declared.kind.Kind.the-variants.{Inner, Outer, Product}
-use Rattle.plan.specs.Report.{Join, Query, tableCount, tableNumbers, namedBy}
-use Rattle.plan.specs.Nodes.{grown, treeAt, treeOf, treesOf, joinTrees}
+use Rattle.plan.specs.Report.{Join, Pair, Query, tableCount, tableNumbers, namedBy, joinPairs}
+use Rattle.plan.specs.Nodes.{grown, tablesAt, nodesOf, joinNodes, treeAt, treeOf, treesOf, joinTrees}
 use Rattle.plan.specs.Sets.{blanksLeft, blanksRight}
-use Rattle.plan.specs.Questions.{rightSides, namesRightSide}
-use Rattle.plan.specs.NodeLaws.{grown-length}
+use Rattle.plan.specs.Questions.{lowerSides, sidesOf, noneTwice, wellBuilt, question5, rightSides, namesRightSide}
+use Rattle.plan.specs.NodeLaws.{grown-length, sides, right-tables}
 use Rattle.plan.specs.Bits.{wordSize, hasBit}
 use Rattle.plan.specs.Steps.{bitsOf}
 use Rattle.plan.specs.BitLaws.{bit-elim, bit-intro, bits-append, bits-none, same-bits}
-use Rattle.plan.specs.Words.{wordTables, wordsTo, joinBits}
-use Rattle.plan.specs.WordLaws.{and-elim, and-intro, none-elim, range-next, tab-at, tab-length}
-use Rattle.plan.specs.SetWords.{tab-same, words-at}
+use Rattle.plan.specs.Words.{wordTables, wordsTo, nodeWords, joinBits}
+use Rattle.plan.specs.WordLaws.{and-elim, and-intro, none-elim}
+use Rattle.plan.specs.SetWords.{tab-same, words-at, node-word}
 use Rattle.plan.specs.NodeWords.{grow-words, grown-last, take-next}
-use Rattle.plan.specs.TreeWords.{leafTrees, underWords, rightWords, sidesWords, rightGain}
-use Rattle.plan.specs.TreeWords.{withJoin, sideFits, simplifiedBits, treesFrom, joinFits}
+use Rattle.plan.specs.FoldWords.{nodes-most}
+use Rattle.plan.specs.TreeWords.{rightWords, rightGain, rightBits, sideFits, simplifiedBits, joinFits}
 use Rattle.plan.specs.declared.join.BitJoin.{BitJoin}
-use Rattle.plan.specs.declared.simplified.Sides.{Sides}
 
--- ---- the trees that are tables
+-- ---- the trees of joins
 
-leaf-count : (n : ℕ) → length (leafTrees n) ≡ n
-unfolding leafTrees
-leaf-count n = length-map (range 0 n) leaf ∙ length-range 0 n
+module _ (q : Query) where
+  tree-count : (js : List Join) → length (treesOf q js) ≡ tableCount q + length js
+  unfolding treesOf tableNumbers
+  tree-count js = grown-length treeOf (map leaf (range 0 (tableCount q))) js
+      ∙ ap (λ (k : ℕ). k + length js) (length-map {B = Tree ℕ} (range 0 (tableCount q)) leaf ∙ length-range 0 (tableCount q))
 
-pub leaf-under-next : (t : ℕ) → t < mostTables → set (underWords (leafTrees t)) t (2 ^ t) ≡ underWords (leafTrees (t + 1))
-unfolding underWords treeAt leafTrees tablesUnder bitsOf
-leaf-under-next t h =
-    rw (range-next t, map-append {B = Tree ℕ} leaf (range 0 t) (t ∷ []))
-    (subst (λ (k : ℕ). set (underWords (leafTrees t)) k (2 ^ t) ≡ underWords (map leaf (range 0 t) ++ (leaf t ∷ []))) (leaf-count t)
-    (rw (sym (or-zero-r (2 ^ t))) (grow-words tablesUnder (leaf 0) (leafTrees t) (leaf t) (omega (arith, leaf-count t)))))
+  pub trees-few : tableCount q ≤ mostTables → length (q .joins) ≤ mostJoins → length (joinTrees q) ≤ mostNodes
+  unfolding joinTrees
+  trees-few h k = omega (arith, tree-count (q .joins))
 
-pub leaf-rights : (n : ℕ) → replicate mostNodes 0 ≡ rightWords (leafTrees n)
-unfolding rightWords wordsTo range leafTrees treeAt rightSides
-leaf-rights n = tab-same (λ i. 0) (λ i. bitsOf (rightSides (treeAt (leafTrees n) i))) 0 mostNodes (λ i a b. sym (ap bitsOf (none (range 0 n) i) ∙ bits-none))
-  where
-    none : (l : List ℕ) (i : ℕ) → rightSides (getD (map leaf l) i (leaf 0)) ≡ []
-    none [] i = refl
-    none (x ∷ l) zero = refl
-    none (x ∷ l) (suc i) = none l i
+  -- a table has no outer join
+  pub no-rights : replicate mostNodes 0 ≡ rightWords (treesOf q [])
+  unfolding rightWords wordsTo range treesOf grown tableNumbers treeAt rightSides
+  no-rights = tab-same (λ i. 0) (λ i. bitsOf (rightSides (treeAt (treesOf q []) i))) 0 mostNodes
+      (λ i a b. sym (ap bitsOf (none (range 0 (tableCount q)) i) ∙ bits-none))
+    where
+      none : (l : List ℕ) (i : ℕ) → rightSides (getD (map leaf l) i (leaf 0)) ≡ []
+      none [] i = refl
+      none (x ∷ l) zero = refl
+      none (x ∷ l) (suc i) = none l i
 
--- ---- one join more
-
--- reading the arrays; a node that there is not is table 0
-module _ (trees : List (Tree ℕ)) (few : length trees ≤ mostNodes) where
-  past : (i : ℕ) → mostNodes ≤ i → treeAt trees i ≡ leaf 0
-  unfolding treeAt
-  past i h = List·getD-eq-default trees (leaf 0) (omega arith)
-
-  pub under-word : (i : ℕ) → getD (underWords trees) i 1 ≡ bitsOf (tablesUnder (treeAt trees i))
-  unfolding underWords wordsTo tablesUnder bitsOf
-  under-word i = by-cases (decT (ltb i mostNodes)) (λ l. tab-at (λ (k : ℕ). bitsOf (tablesUnder (treeAt trees k))) mostNodes i 1 (ltb-yes l))
-      (λ l. let b : mostNodes ≤ i = ltb-no (not-T (ltb i mostNodes) l) in
-      List·getD-eq-default (map (λ k. bitsOf (tablesUnder (treeAt trees k))) (range 0 mostNodes)) 1
-      (omega (arith, tab-length (λ (k : ℕ). bitsOf (tablesUnder (treeAt trees k))) mostNodes))
-      ∙ sym (ap (λ (E : Tree ℕ). bitsOf (tablesUnder E)) (past i b)))
-
-  pub right-word : (i : ℕ) → getD (rightWords trees) i 0 ≡ bitsOf (rightSides (treeAt trees i))
-  unfolding rightWords rightSides
-  right-word i = words-at (λ (k : ℕ). rightSides (treeAt trees k)) mostNodes i (λ b. ap rightSides (past i b))
+-- reading the array; a node that there is not is table 0
+right-word : (trees : List (Tree ℕ)) → length trees ≤ mostNodes → (i : ℕ) → getD (rightWords trees) i 0 ≡ bitsOf (rightSides (treeAt trees i))
+unfolding rightWords rightSides treeAt
+right-word trees few i =
+    words-at (λ (k : ℕ). rightSides (treeAt trees k)) mostNodes i (λ b. ap rightSides (List·getD-eq-default trees (leaf 0) (omega arith)))
 
 gain-word : (k : Kind) (C : List ℕ) (A B : Tree ℕ)
     → bitOr (bitsOf (rightSides A)) (rightGain k (bitsOf (tablesUnder B)) (bitsOf (rightSides B))) ≡ bitsOf (rightSides (join k C A B))
@@ -84,14 +70,6 @@ unfolding rightGain rightSides
 gain-word Inner C A B = sym (bits-append (rightSides A) (rightSides B))
 gain-word Outer C A B = sym (bits-append (rightSides A) (tablesUnder B))
 gain-word Product C A B = sym (bits-append (rightSides A) (rightSides B))
-
-under-grown : (trees : List (Tree ℕ)) (j : Join) → length trees < mostNodes
-    → set (underWords trees) (length trees) (bitOr (bitsOf (tablesUnder (treeAt trees (j .left)))) (bitsOf (tablesUnder (treeAt trees (j .right)))))
-    ≡ underWords (trees ++ (treeOf trees j ∷ []))
-unfolding underWords treeAt treeOf tablesUnder
-under-grown trees j h =
-    rw (sym (bits-append (tablesUnder (treeAt trees (j .left))) (tablesUnder (treeAt trees (j .right)))))
-    (grow-words tablesUnder (leaf 0) trees (treeOf trees j) h)
 
 right-grown : (trees : List (Tree ℕ)) (j : Join) → length trees < mostNodes
     → set (rightWords trees) (length trees)
@@ -103,53 +81,43 @@ right-grown trees j h =
     rw (gain-word (j .kind) (j .conditions) (treeAt trees (j .left)) (treeAt trees (j .right)))
     (grow-words rightSides (leaf 0) trees (treeOf trees j) h)
 
-pub sides-next : (trees : List (Tree ℕ)) (j : Join) → length trees < mostNodes → withJoin (sidesWords trees) (length trees) j ≡ sidesWords
-    (trees ++ (treeOf trees j ∷ []))
-unfolding withJoin sidesWords
-sides-next trees j h =
-    let few : length trees ≤ mostNodes = omega arith in
-    rw (under-word trees few (j .left), under-word trees few (j .right), right-word trees few (j .left), right-word trees few (j .right))
-    (ap₂ sides under-next right-next)
-  where
-    sides : List ℕ → List ℕ → Sides
-    sides u r = record { under = u; rights = r }
+module _ (q : Query) (small : tableCount q ≤ mostTables) (few : length (q .joins) ≤ mostJoins) (built : T (question5 q)) where
+  -- the tables of the right side of a J line
+  under-right : (i : ℕ) (j : Join) → i < length (q .joins) → getD (q .joins) i j ≡ j
+      → tablesAt (joinNodes q) (j .right) ≡ tablesUnder (treeAt (treesOf q (take i (q .joins))) (j .right))
+  unfolding joinNodes nodesOf treesOf tableNumbers joinPairs tablesAt treeAt tablesUnder question5 wellBuilt
+  under-right i j h at =
+      let n = tableCount q in
+      let l : length (map {B = Tree ℕ} leaf (range 0 n)) ≡ n = length-map {B = Tree ℕ} (range 0 n) leaf ∙ length-range 0 n in
+      let low = and-yes (eqb (suc (length (joinPairs q))) n) (lowerSides n (joinPairs q))
+      (and-yes (eqb (suc (length (joinPairs q))) n && lowerSides n (joinPairs q)) (noneTwice (sidesOf (joinPairs q))) built .0) .1 in
+      right-tables (map (λ t. t ∷ []) (range 0 n)) (map leaf (range 0 n)) (q .joins)
+      (length-map (range 0 n) (λ t. t ∷ []) ∙ sym (length-map {B = Tree ℕ} (range 0 n) leaf))
+      (subst (λ (k : ℕ). T (lowerSides k (joinPairs q))) (sym l) low)
+      (λ k b. let c : k < n = omega arith in rw (getD-range (λ (t : ℕ). t ∷ []) [] 0 n k c, getD-range {A = Tree ℕ} leaf (leaf 0) 0 n k c))
+      i j h at
 
-    under-next : set (underWords trees) (length trees)
-        (bitOr (bitsOf (tablesUnder (treeAt trees (j .left)))) (bitsOf (tablesUnder (treeAt trees (j .right)))))
-        ≡ underWords (trees ++ (treeOf trees j ∷ []))
-    under-next = under-grown trees j h
-
-    right-next : set (rightWords trees) (length trees)
-        (bitOr (bitsOf (rightSides (treeAt trees (j .left))))
-        (rightGain (j .kind) (bitsOf (tablesUnder (treeAt trees (j .right)))) (bitsOf (rightSides (treeAt trees (j .right))))))
-        ≡ rightWords (trees ++ (treeOf trees j ∷ []))
-    right-next = right-grown trees j h
-
--- the next join of a list makes its tree
-pub sides-turn : (n : ℕ) (js : List Join) (i : ℕ) (j : Join) (s : Sides) → i < length js → getD js i j ≡ j → n + i < mostNodes
-    → s ≡ sidesWords (treesFrom n (take i js)) → withJoin s (n + i) j ≡ sidesWords (treesFrom n (take (i + 1) js))
-unfolding treesFrom
-sides-turn n js i j s h at room e =
-    let l : length (treesFrom n (take i js)) ≡ n + i =
-    grown-length treeOf (leafTrees n) (take i js) ∙ ap₂ _+_ (leaf-count n) (length-take-le i js (omega arith)) in
-    rw (e, take-next js i j h, at, grown-last treeOf (leafTrees n) (take i js) j)
-    (subst (λ (k : ℕ). withJoin (sidesWords (treesFrom n (take i js))) k j ≡ sidesWords
-    (treesFrom n (take i js) ++ (treeOf (treesFrom n (take i js)) j ∷ []))) l
-    (sides-next (treesFrom n (take i js)) j (omega arith)))
-
-pub trees-from : (q : Query) (n : ℕ) (js : List Join) → n ≡ tableCount q → js ≡ q .joins → treesFrom n js ≡ joinTrees q
-unfolding treesFrom joinTrees treesOf tableNumbers leafTrees
-trees-from q n js e f = rw (e, f)
-
-pub trees-few : (q : Query) → tableCount q ≤ mostTables → length (q .joins) ≤ mostJoins → length (joinTrees q) ≤ mostNodes
-unfolding joinTrees treesOf tableNumbers
-trees-few q h k = omega (
-  arith,
-  grown-length treeOf (map leaf (range 0 (tableCount q))) (q .joins),
-  length-map {B = Tree ℕ} (range 0 (tableCount q)) leaf,
-  length-range 0
-      (tableCount q),
-)
+  -- the next J line makes its tree
+  pub right-turn : (i : ℕ) (j : Join) (nodes rights : List ℕ) → i < length (q .joins) → getD (q .joins) i j ≡ j
+      → nodes ≡ nodeWords (joinNodes q) → rights ≡ rightWords (treesOf q (take i (q .joins)))
+      → set rights (tableCount q + i) (rightBits nodes rights j) ≡ rightWords (treesOf q (take (i + 1) (q .joins)))
+  unfolding rightBits treesOf joinNodes joinPairs
+  right-turn i j nodes rights h at e f =
+      let trees = treesOf q (take i (q .joins)) in
+      let l : length trees ≡ tableCount q + i = tree-count q (take i (q .joins)) ∙ ap (λ (k : ℕ). tableCount q + k) (length-take-le i (q .joins) (omega arith)) in
+      rw (
+        e,
+        f,
+        node-word (joinNodes q) (nodes-most q (joinPairs q) small (omega (arith, length-map {B = Pair} (q .joins) sides))) (j .right),
+        under-right i j h at,
+        right-word trees (omega arith) (j .left),
+        right-word trees (omega arith) (j .right),
+        take-next (q .joins) i j h,
+        at,
+        grown-last treeOf (map leaf (tableNumbers q)) (take i (q .joins)) j,
+        sym l,
+      )
+      (right-grown trees j (omega arith))
 
 -- ---- every table of a tree is below 64
 

@@ -1,53 +1,19 @@
 // Question 8: whether the tree of the J lines is simplified.
-use crate::bits;
 use crate::join;
 use crate::join::BitJoin;
+use crate::order;
 use crate::query::StoredJoin;
 use crate::query::StoredQuery;
 use crate::sets;
 use cells::limits::NODES;
 use rows::kind::Kind;
 ghost use mathlib.Core.Path.{_≡_};
-ghost use Prim.Native.Nat.{_<_, _≤_};
-ghost use lib.ListN.{getD};
-ghost use Rattle.cells.specs.Limits.{mostTables, mostNodes};
+ghost use lib.Dec.{T};
 ghost use Rattle.plan.specs.Nodes.{joinTrees};
-ghost use Rattle.plan.specs.Questions.{question8};
+ghost use Rattle.plan.specs.Questions.{question5, question8};
 ghost use Rattle.plan.specs.Stored.{queryIn, joinIn};
 ghost use Rattle.plan.specs.Counted.{Counted};
-ghost use Rattle.plan.specs.TreeWords.{leafTrees, underWords, sidesWords, rightGain, withJoin, sideFits, simplifiedBits};
-
-// Of each node's tree: its tables, and those of the right sides of its outer joins. What stands for a node that there is not is
-// the tree of table 0.
-pub struct Sides {
-    pub under: [u64; NODES],
-    pub rights: [u64; NODES],
-}
-
-// The tables of a node's tree.
-fn under_at(under: [u64; NODES], i: u16) -> u64
-    ensures { λ r. ⌜ r ≡ getD under i 1 ⌝ }
-{
-    let at = i as usize;
-    if NODES <= at {
-        return 1;
-    }
-    under[at]
-}
-
-// The trees that are tables.
-fn leaves_under(tables: usize) -> [u64; NODES]
-    requires { ⌜ tables ≤ mostTables ⌝ }
-    ensures { λ r. ⌜ r ≡ underWords (leafTrees tables) ⌝ }
-{
-    let mut under = [1u64; NODES];
-    let mut t: usize = 0;
-    while t < tables {
-        under[t] = bits::one(t as u64);
-        t += 1;
-    }
-    under
-}
+ghost use Rattle.plan.specs.TreeWords.{rightWords, rightGain, rightBits, sideFits, simplifiedBits};
 
 // What a join's right side adds: all of its tables where the join is outer.
 fn right_gain(kind: Kind, under: u64, rights: u64) -> u64
@@ -60,41 +26,33 @@ fn right_gain(kind: Kind, under: u64, rights: u64) -> u64
     }
 }
 
-// The trees with that of one join more.
-fn with_join(s: Sides, at: usize, j: StoredJoin) -> Sides
-    requires { ⌜ at < mostNodes ⌝ }
-    ensures { λ r. ⌜ r ≡ withJoin s at (joinIn j) ⌝ }
+// The tables of the right sides of the outer joins of a join's tree, given those of its sides.
+fn right_sides(nodes: [u64; NODES], rights: [u64; NODES], j: StoredJoin) -> u64
+    ensures { λ r. ⌜ r ≡ rightBits nodes rights (joinIn j) ⌝ }
 {
-    let mut under = s.under;
-    let mut rights = s.rights;
     let kind = j.kind;
-    let right = under_at(under, j.right);
-    let gain = right_gain(kind, right, sets::node_at(rights, j.right));
-    let tables = under_at(under, j.left) | right;
-    let sides = sets::node_at(rights, j.left) | gain;
-    under[at] = tables;
-    rights[at] = sides;
-    Sides { under, rights }
+    let under = sets::node_at(nodes, j.right);
+    let gain = right_gain(kind, under, sets::node_at(rights, j.right));
+    sets::node_at(rights, j.left) | gain
 }
 
-// The trees of all nodes.
-fn sides_of(q: StoredQuery) -> Sides
-    requires { ⌜ Counted q ⌝ }
-    ensures { λ r. ⌜ r ≡ sidesWords (joinTrees (queryIn q)) ⌝ }
+// Of each node's tree, the tables of the right sides of its outer joins.
+fn rights_of(q: StoredQuery) -> [u64; NODES]
+    requires { ⌜ Counted q × T (question5 (queryIn q)) ⌝ }
+    ensures { λ r. ⌜ r ≡ rightWords (joinTrees (queryIn q)) ⌝ }
 {
+    let nodes = order::line_nodes(q);
+    let mut rights = [0u64; NODES];
     let n = q.table_count as usize;
-    let under = leaves_under(n);
-    let rights = [0u64; NODES];
-    let mut s = Sides { under, rights };
     let count = q.join_count as usize;
     let mut i: usize = 0;
     while i < count {
         let j = q.joins[i];
-        let next = with_join(s, n + i, j);
-        s = next;
+        let sides = right_sides(nodes, rights, j);
+        rights[n + i] = sides;
         i += 1;
     }
-    s
+    rights
 }
 
 // Whether a side is not blanked, or none of these tables is named.
@@ -126,13 +84,12 @@ fn fits(rights: [u64; NODES], j: BitJoin) -> bool
     false
 }
 
-// Question 8.
+// Question 8, of a query that passed question 5.
 pub fn is_simplified(q: StoredQuery) -> bool
-    requires { ⌜ Counted q ⌝ }
+    requires { ⌜ Counted q × T (question5 (queryIn q)) ⌝ }
     ensures { λ r. ⌜ r ≡ question8 (queryIn q) ⌝ }
 {
-    let s = sides_of(q);
-    let rights = s.rights;
+    let rights = rights_of(q);
     let n = q.join_count as usize;
     let mut i: usize = 0;
     while i < n {

@@ -1,5 +1,5 @@
 -- `accept::accept::ask` meets its contract: the first no of what the query is asked. Assumes nothing.
-use Rattle.accept.specs.AcceptLaws.{refused-5, refused-6, refused-7, refused-8, accepted, joins-room, counted}
+use Rattle.accept.specs.AcceptLaws.{refused-5, refused-6, refused-7, refused-8, accepted, joins-room, joins-built, counted}
 use borrow.Author.Needs.{needs}
 use borrow.Author.Tests.{not-true, not-false}
 use Rattle.accept.proofs.accept.ask.Statement.{statement}
@@ -36,8 +36,11 @@ returns-3 c =
 is-simplified-requires : tie.Need-is-simplified-requires
 is-simplified-requires c κs =
     let j = c .before .before in
-    let i = j .before .before in
-    counted _ (i .before .before .pre) (i .before .joins-built .ensures) (not-false _ (i .if1 .left)) (j .before .conditions-fit .ensures) (not-false _ (j .if2 .left))
+    let i = j .before .before in (
+      counted _ (i .before .before .pre) (i .before .joins-built .ensures) (not-false _ (i .if1 .left)) (j .before .conditions-fit .ensures)
+          (not-false _ (j .if2 .left)),
+      joins-built _ (i .before .before .pre) (i .before .joins-built .ensures) (not-false _ (i .if1 .left)),
+    )
 
 returns-4 : tie.Need-returns-4
 returns-4 c =

@@ -8,7 +8,7 @@ use Rattle.plan.specs.Nodes.{joinTrees}
 use Rattle.plan.specs.Questions.{question8}
 use Rattle.plan.specs.Stored.{queryIn}
 use Rattle.plan.specs.FoldWords.{join-count, join-at, tables-most}
-use Rattle.plan.specs.TreeWords.{rightWords, sidesWords, joinFits}
+use Rattle.plan.specs.TreeWords.{rightWords, joinFits}
 use Rattle.plan.specs.TreeWordLaws.{fits-word, all-next, all-stops, all-ends, trees-few}
 use borrow.Author.Needs.{needs}
 use Rattle.plan.proofs.simplified.is_simplified.Statement.{statement}
@@ -21,15 +21,15 @@ Inv-loop q rights n i₀ i = (i ≤ n) × (rights ≡ rightWords (joinTrees (que
 abbrev μ-loop : tie.MeasureT-loop
 μ-loop q rights n i₀ i = n - i
 
-sides-of-requires : tie.Need-sides-of-requires Inv-loop μ-loop
-sides-of-requires c κs = search needs
+rights-of-requires : tie.Need-rights-of-requires Inv-loop μ-loop
+rights-of-requires c κs = search needs
 
 cast-n : tie.Need-cast-n Inv-loop μ-loop
 cast-n c = search needs
 
 loop-holds : tie.Need-loop-holds Inv-loop μ-loop
-unfolding question8 sidesWords joinFits
-loop-holds c = (search needs, ap (λ s. s .rights) (c .before .sides-of .ensures), refl)
+unfolding question8 joinFits
+loop-holds c = (search needs, c .rights-of .ensures, refl)
 
 mul-j : tie.Need-mul-j Inv-loop μ-loop
 mul-j c = search needs
@@ -53,7 +53,7 @@ loop-again : tie.Need-loop-again Inv-loop μ-loop
 loop-again c =
     let f = c .before in
     let e = f .before .before .before .before in
-    let s = e .before .before .before in
+    let s = e .before .before in
     let q = s .args .t1 in
     let jl : length (q .joins) ≡ 7 = sym (length-map (q .joins) _) ∙ s .good .0 .1 .1 .1 .1 .1 .0 .1 .0 .1 in
     let n : length (queryIn q .joins) ≡ q .«join_count» = join-count q (omega arith) in
@@ -70,7 +70,7 @@ returns : tie.Need-returns Inv-loop μ-loop
 returns c =
     let f = c .before in
     let e = f .before .before .before .before in
-    let s = e .before .before .before in
+    let s = e .before .before in
     let q = s .args .t1 in
     let jl : length (q .joins) ≡ 7 = sym (length-map (q .joins) _) ∙ s .good .0 .1 .1 .1 .1 .1 .0 .1 .0 .1 in
     let n : length (queryIn q .joins) ≡ q .«join_count» = join-count q (omega arith) in
@@ -82,7 +82,7 @@ returns c =
 returns-2 : tie.Need-returns-2 Inv-loop μ-loop
 returns-2 c =
     let e = c .before in
-    let s = e .before .before .before in
+    let s = e .before .before in
     let q = s .args .t1 in
     let jl : length (q .joins) ≡ 7 = sym (length-map (q .joins) _) ∙ s .good .0 .1 .1 .1 .1 .1 .0 .1 .0 .1 in
     sym (e .loop .inv .2 ∙ all-ends (joinFits (queryIn q)) (queryIn q .joins) (e .loop .i) (omega (arith, join-count q (omega arith))))
@@ -93,7 +93,7 @@ is-simplified-spec =
     (tie.spec
     Inv-loop
     μ-loop
-    sides-of-requires
+    rights-of-requires
     cast-n
     loop-holds
     mul-j
