@@ -30,7 +30,7 @@ use Rattle.plan.specs.Stands.{Stands}
 use Rattle.plan.specs.declared.query.StoredQuery.{StoredQuery}
 use Rattle.joins.specs.Work.{workspace}
 use Rattle.run.specs.DatabaseLaws.{lawful}
-use Rattle.run.specs.LimitLaws.{within256, whole-results, results-whole}
+use Rattle.run.specs.LimitLaws.{withinTree, whole-results, results-whole}
 use Rattle.run.specs.Padding.{pad}
 use Rattle.run.specs.Runs.{results, withinLimit, directRows, question11Direct, runRows, reportRows}
 use Rattle.engine.specs.AnswerLaws.{three-yes, report-accepted, rows-limit, few-rows}
@@ -57,8 +57,8 @@ module _ {s : StoredQuery} {cells : List ℤ} {r : Report} (k : Stands s cells r
   rows-count : (E : Tree ℕ) → Shaped laws E → length (rowsOf W E) ≡ length (rowsOf (database r) E)
   rows-count E h = ap length (rows-seen k (counted k well yes .conditions) small E h) ∙ length-map (rowsOf (database r) E) (pad _)
 
-  within-seen : (E : Tree ℕ) → Shaped laws E → within256 W E ≡ within256 (database r) E
-  unfolding within256 rowsOf
+  within-seen : (E : Tree ℕ) → Shaped laws E → withinTree W E ≡ withinTree (database r) E
+  unfolding withinTree rowsOf
   within-seen (leaf t) h = refl
   within-seen (join i C A B) h = rw (within-seen A (h .0), within-seen B (h .1), rows-count (join i C A B) h)
 
@@ -69,11 +69,11 @@ module _ {s : StoredQuery} {cells : List ℤ} {r : Report} (k : Stands s cells r
   few-each t = rows-limit r (three-yes r yes) t
 
   -- every join on the way has few rows exactly if question 11 is answered yes
-  pub within-eleven : within256 W (joinTree q) ≡ question11Direct r
+  pub within-eleven : withinTree W (joinTree q) ≡ question11Direct r
   unfolding question11Direct withinLimit results joinTree joinTrees
   within-eleven =
       within-seen (joinTree q) (query-tree k (counted k well yes .conditions) small ok)
-      ∙ same-test (within256 (database r) (joinTree q)) (all (λ (rows : List Row). leb (length rows) mostRows) (results r (joinTrees q)))
+      ∙ same-test (withinTree (database r) (joinTree q)) (all (λ (rows : List Row). leb (length rows) mostRows) (results r (joinTrees q)))
       (λ h. whole-results (database r) few-each q (query-matched q ok) (query-built q ok) h)
       (λ h. results-whole (database r) few-each q (query-matched q ok) (query-built q ok) h)
 
