@@ -1,4 +1,4 @@
-// Reading a report text: questions 2 to 7 and 9, the query, and the cells.
+// Reading a report text: questions 2, 3 and 4, the query, and the cells.
 pub mod join_lines;
 pub mod pairs;
 pub mod place;

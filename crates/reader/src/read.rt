@@ -1,4 +1,4 @@
-// A report text read: questions 2, 3 and 4, the query, and the cells in the lent run. Questions 5 to 7 and 9 are put to the query.
+// A report text read: questions 2, 3 and 4, the query, and the cells in the lent run. The other questions are put to the query.
 use crate::stored;
 use crate::survey;
 use load::cell_run;
