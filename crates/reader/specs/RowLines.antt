@@ -1,19 +1,26 @@
 -- Serves the code's pass over the lines; no demand cites it. A run of D lines read with the tables alone, and the reading after it.
 -- Assumes nothing.
 use mathlib.Core.Path.{_≡_, refl, sym, ap, _∙_, subst}
+use mathlib.Core.Bool.{true, false}
+use mathlib.Core.List.{List}
 use Prim.Native.Nat.{ℕ, _+_, _-_, _<_, _≤_}
 use native.Mathlib.Omega.{arith}
+use lib.IntN.{ℤ}
 use lib.ListN.{length, take, drop}
+use Rattle.cells.specs.BoolLaws.{clash}
 use Rattle.text.specs.Bytes.{Bytes, lineFeed}
 use Rattle.text.specs.Lines.{lineOf}
 use Rattle.text.specs.Parts.{until, linesFrom}
 use Rattle.text.specs.Forms.{lineRead}
 use Rattle.text.specs.declared.line.LineRead.the-variants as R
+use Rattle.load.specs.Cells.{textCells}
+use Rattle.load.specs.Run.{Begins}
 use Rattle.reader.specs.State.{afterRow}
-use Rattle.reader.specs.Survey.{withTables, afterRead, readFrom, Bounded}
+use Rattle.reader.specs.Survey.{withTables, afterRead, stepIn, readFrom, surveyOf, Bounded}
 use Rattle.reader.specs.SurveyLaws.{row-there, from-step}
 use Rattle.reader.specs.declared.tables.Tables.{Tables}
 use Rattle.reader.specs.declared.survey.Reading.{Reading}
+use Rattle.reader.specs.declared.survey.Stepped.{Stepped}
 
 -- In the tables part, reading on from place `to` with tables `u` is reading on from place `at` with tables `t`, whatever the other parts
 -- are; there are no tables more, and no more rows than the place.
@@ -25,6 +32,10 @@ RowsTo bs at t to u =
 -- Reading on from place `to` after `u` is reading on from place `at` after `s`, and no count of `u` passes the place.
 abbrev pub ReadsTo : Bytes → ℕ → Reading → ℕ → Reading → Type 0
 ReadsTo bs at s to u = (at ≤ to) × (to ≤ length bs) × Bounded to u × (readFrom s (linesFrom bs at) ≡ readFrom u (linesFrom bs to))
+
+-- What the pass answers to a text, and the run after it: the text's cells first, where the text is not refused.
+abbrev pub Surveyed : Bytes → List ℤ → Stepped → Type 0
+Surveyed bs run r = (stepIn r ≡ surveyOf bs) × (r .accepted ≡ true → Begins run (textCells bs))
 
 -- an empty run
 pub rows-none : (bs : Bytes) (at : ℕ) (t : Tables) → at ≤ length bs → t .rows ≤ at → RowsTo bs at t at t
@@ -52,3 +63,7 @@ reads-rows bs at to s u b e r d = subst (λ (x : Reading). ReadsTo bs at s to x)
   (omega arith, omega arith, omega arith, omega arith, omega arith, omega arith),
   r .4 s e,
 )
+
+-- a text that is refused
+pub survey-refused : (bs : Bytes) (run : List ℤ) (r : Stepped) → r .accepted ≡ false → stepIn r ≡ surveyOf bs → Surveyed bs run r
+survey-refused bs run r h e = (e, λ k. clash cc)

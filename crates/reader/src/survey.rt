@@ -10,15 +10,19 @@ use crate::row_lines;
 use crate::tables;
 use crate::tables::Tables;
 use cells::limits::BYTES;
+use load::cell_run;
 use text::line;
 use text::line::LineRead;
 use text::part;
 ghost use mathlib.Core.Path.{_≡_};
-ghost use Prim.Native.Nat.{_≤_};
-ghost use lib.ListN.{length};
+ghost use Prim.Native.Nat.{_+_, _<_, _≤_};
+ghost use lib.ListN.{length, drop};
 ghost use Rattle.cells.specs.Limits.{mostBytes};
-ghost use Rattle.reader.specs.Survey.{start, withTables, withJoins, withPairs, told, stepIn, afterRead, Bounded, surveyOf};
-ghost use Rattle.reader.specs.RowLines.{ReadsTo};
+ghost use Rattle.text.specs.Bytes.{lineFeed};
+ghost use Rattle.text.specs.Parts.{until};
+ghost use Rattle.load.specs.Run.{LaidTo};
+ghost use Rattle.reader.specs.Survey.{start, withTables, withJoins, withPairs, told, stepIn, afterRead, Bounded};
+ghost use Rattle.reader.specs.RowLines.{ReadsTo, Surveyed};
 
 // The place of the latest line, and what the lines of each part said so far.
 pub struct Reading {
@@ -34,9 +38,10 @@ pub struct Stepped {
     pub reading: Reading,
 }
 
-// A place in the text, and the reading of the lines before it.
+// A place in the text, the place behind the cells of the lines before it, and the reading of these lines.
 pub struct ReadTo {
     pub at: usize,
+    pub out: usize,
     pub reading: Reading,
 }
 
@@ -131,26 +136,48 @@ fn after_line(s: Reading, x: LineRead) -> Stepped
 }
 
 // A run of D lines more, where there is one at place `at` of the tables part.
-fn with_rows(text: &[u8], at: usize, s: Reading) -> ReadTo
-    requires { ⌜ (at ≤ length (now text)) × (length (now text) ≤ mostBytes) × Bounded at s ⌝ }
-    ensures { λ r. ⌜ ReadsTo (now (text .entry)) at s (r .at) (r .reading) ⌝ }
+fn with_rows(text: &[u8], at: usize, s: Reading, cells: &mut [i32], out: usize) -> ReadTo
+    requires { ⌜ (at ≤ length (now text)) × (length (now text) ≤ mostBytes) × Bounded at s × (out ≤ at) × LaidTo (now text) at (now cells) out ⌝ }
+    ensures { λ r. ⌜ ReadsTo (now (text .entry)) at s (r .at) (r .reading) × (r .out ≤ r .at) × LaidTo (now (text .entry)) (r .at) (now (cells .exit)) (r .out) ⌝ }
 {
     if s.place.part != place::TABLES {
-        return ReadTo { at: at, reading: s };
+        return ReadTo {
+            at,
+            out,
+            reading: s,
+        };
     }
     let before = s.tables;
-    let rows = row_lines::read_rows(text, at, before);
+    let rows = row_lines::read_rows(text, at, before, cells, out);
     let t = rows.tables;
     let next = with_tables(s, t);
     ReadTo {
         at: rows.at,
+        out: rows.out,
         reading: next,
     }
 }
 
-// The whole text, or refused by question 2.
-pub fn survey(text: &[u8]) -> Stepped
-    ensures { λ r. ⌜ stepIn r ≡ surveyOf (now (text .entry)) ⌝ }
+// Behind a line that was read, from `at` to `to`: its cells are put into the run, and the D lines after it are read.
+fn behind_line(
+    text: &[u8],
+    at: usize,
+    to: usize,
+    s: Reading,
+    cells: &mut [i32],
+    out: usize,
+) -> ReadTo
+    requires { ⌜ (to ≡ at + until lineFeed (drop at (now text))) × (at ≤ to) × (to < length (now text)) × (length (now text) ≤ mostBytes) × Bounded (to + 1) s
+        × (out ≤ at) × LaidTo (now text) at (now cells) out ⌝ }
+    ensures { λ r. ⌜ ReadsTo (now (text .entry)) (to + 1) s (r .at) (r .reading) × (r .out ≤ r .at) × LaidTo (now (text .entry)) (r .at) (now (cells .exit)) (r .out) ⌝ }
+{
+    let next = cell_run::put_line(&text[at..to], cells, out);
+    with_rows(text, to + 1, s, cells, next)
+}
+
+// The whole text, or refused by question 2. The run begins with the text's cells where the text is not refused.
+pub fn survey(text: &[u8], cells: &mut [i32]) -> Stepped
+    ensures { λ r. ⌜ Surveyed (now (text .entry)) (now (cells .exit)) r ⌝ }
 {
     let mut s = start();
     if BYTES < text.len() {
@@ -159,6 +186,7 @@ pub fn survey(text: &[u8]) -> Stepped
             reading: s,
         };
     }
+    let mut out = 0;
     let mut at = 0;
     while at < text.len() {
         let to = part::part_end(text, at, part::LINE_FEED);
@@ -171,8 +199,9 @@ pub fn survey(text: &[u8]) -> Stepped
         let x = line::read_line(&text[at..to]);
         let next = after_line(s, x);
         if next.accepted {
-            let read = with_rows(text, to + 1, next.reading);
+            let read = behind_line(text, at, to, next.reading, cells, out);
             s = read.reading;
+            out = read.out;
             at = read.at;
         } else {
             return next;
