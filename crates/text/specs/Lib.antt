@@ -16,3 +16,4 @@ pub mod Forms
 pub mod Letters
 pub mod Scan
 pub mod ScanLaws
+pub mod ScanLines

@@ -8,9 +8,9 @@ use native.Mathlib.Nat.{zero-add}
 use native.Mathlib.Numerals.{add-one}
 use native.Mathlib.Omega.{arith}
 use lib.Dec.{ltb}
-use lib.IntN.{ℤ, pos, negsuc, negℤ}
+use lib.IntN.{pos, negsuc, negℤ}
 use lib.ListN.{length, drop, getD, length-drop}
-use lib.Seq.{take-suc, drop-cons, getD-drop}
+use lib.Seq.{length-take-le, take-suc, drop-cons, getD-drop}
 use borrow.Author.Tests.{le-ltb}
 use Rattle.cells.specs.BoolLaws.{clash}
 use Rattle.cells.specs.Choice.{if_then_else_}
@@ -20,11 +20,14 @@ use Rattle.text.specs.Bytes.{Bytes}
 use Rattle.text.specs.Numbers.{digit, decimal, valueOf, natural, positive, negative, number, ifMade, constant, cell}
 use Rattle.text.specs.Digits.{next, digitsFrom, number-same, number-digits, digits-more}
 use Rattle.text.specs.Ranges.{ranged, found, constant-is, constant-plain, cell-blank, cell-long, cell-other}
-use Rattle.text.specs.Scan.{mostMagnitude, between, DigitsStand, CellFound, CellStands}
+use Rattle.text.specs.Scan.{mostMagnitude, between, DigitsStand, CellFound}
 
 -- ---- the bytes between two places
 
-between-none : (bs : Bytes) (at : ℕ) → between bs at at ≡ []
+pub length-between : (bs : Bytes) (from to : ℕ) → to ≤ length bs → length (between bs from to) ≡ to - from
+length-between bs from to h = length-take-le (to - from) (drop from bs) (rw (length-drop from bs) (omega arith))
+
+pub between-none : (bs : Bytes) (at : ℕ) → between bs at at ≡ []
 between-none bs at = let e : at - at ≡ 0 = omega arith in rw e
 
 -- a byte more at the end
@@ -36,7 +39,7 @@ between-more bs from to h k =
     rw e (take-suc (drop from bs) (to - from) 0 l ∙ rw (getD-drop from bs (to - from) 0, g))
 
 -- the first byte, and those behind it
-between-first : (bs : Bytes) (from to : ℕ) → from < to → to ≤ length bs → between bs from to ≡ getD bs from 0 ∷ between bs (from + 1) to
+pub between-first : (bs : Bytes) (from to : ℕ) → from < to → to ≤ length bs → between bs from to ≡ getD bs from 0 ∷ between bs (from + 1) to
 between-first bs from to h k =
     let e : to - from ≡ suc (to - (from + 1)) = omega arith in
     let l : from < length bs = omega arith in

@@ -12,9 +12,9 @@ pub enum CellAt {
 }
 
 // A number, and the place behind its last digit.
-pub struct Digits {
-    pub value: u64,
-    pub at: usize,
+struct Digits {
+    value: u64,
+    at: usize,
 }
 
 // The digits 0 and 9, and the sign of a number below 0.
@@ -24,8 +24,8 @@ const NINE: u8 = 57;
 
 const MINUS: u8 = 45;
 
-// The largest magnitude that a cell has: mostMagnitude.
-const MAGNITUDE: u64 = Cell::HIGHEST as u64;
+// The largest magnitude of a cell: mostMagnitude.
+const MOST_MAGNITUDE: u64 = Cell::HIGHEST as u64;
 
 // The number whose first digits say `first`, read on from a place: up to the first byte that is no digit, or the first digit with which
 // the number would leave a cell's range.
@@ -44,7 +44,7 @@ fn read_on(text: &[u8], from: usize, first: u64) -> Digits
             return Digits { value: v, at: i };
         }
         let w = v * 10 + ((b - ZERO) as u64);
-        if MAGNITUDE < w {
+        if MOST_MAGNITUDE < w {
             return Digits { value: v, at: i };
         }
         v = w;
@@ -53,7 +53,7 @@ fn read_on(text: &[u8], from: usize, first: u64) -> Digits
     Digits { value: v, at: i }
 }
 
-// A cell whose first byte is a minus sign: a number below 0, or blank.
+// A cell whose first byte is a minus sign: a number below 0, or blank. A 0 behind the sign is no part of the cell.
 fn minus_at(text: &[u8], from: usize) -> CellAt
     requires { ⌜ (from < length (now text)) × (getD (now text) from 0 ≡ 45) ⌝ }
     ensures { λ r. ⌜ CellStands (now (text .entry)) from r ⌝ }
@@ -62,18 +62,19 @@ fn minus_at(text: &[u8], from: usize) -> CellAt
     if text.len() <= next {
         return CellAt::Value(Cell::BLANK, next);
     }
-    let b = text[next];
-    if b <= ZERO {
+    let d = text[next];
+    if d <= ZERO {
         return CellAt::Value(Cell::BLANK, next);
     }
-    if NINE < b {
+    if NINE < d {
         return CellAt::Value(Cell::BLANK, next);
     }
-    let n = read_on(text, next + 1, (b - ZERO) as u64);
+    let n = read_on(text, next + 1, (d - ZERO) as u64);
     CellAt::Value(0 - (n.value as i32), n.at)
 }
 
-// The longest cell that begins at a place, `from`; the byte behind it is the caller's to look at.
+// The longest cell that begins at place `from`. The byte behind it is the caller's to look at: the field is this cell where that byte is a
+// tab or a line feed.
 pub fn cell_at(text: &[u8], from: usize) -> CellAt
     ensures { λ r. ⌜ CellStands (now (text .entry)) from r ⌝ }
 {

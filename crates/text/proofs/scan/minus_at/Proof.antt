@@ -16,8 +16,8 @@ returns : tie.Need-returns
 unfolding blankCell
 returns c = let s = c .before .before in found-blank _ _ (s .pre .0) (s .pre .1)
 
-shared-slice-read-b : tie.Need-shared-slice-read-b
-shared-slice-read-b c = search needs
+shared-slice-read-d : tie.Need-shared-slice-read-d
+shared-slice-read-d c = search needs
 
 returns-2 : tie.Need-returns-2
 unfolding blankCell
@@ -60,7 +60,7 @@ minus-at-spec =
     (tie.spec
     add-next
     returns
-    shared-slice-read-b
+    shared-slice-read-d
     returns-2
     returns-3
     add-read-on
