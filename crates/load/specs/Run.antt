@@ -1,12 +1,12 @@
 -- Serves the code's pass over the cells; no demand cites it. The run of cells line by line: it begins with the cells of the lines that
 -- were read. Assumes nothing.
 use mathlib.Core.Path.{_≡_, refl, sym, ap, _∙_}
-use mathlib.Core.List.{List, [], _∷_, _++_, append-assoc, append-nil}
-use Prim.Native.Nat.{ℕ, suc, _+_, _-_, _≤_}
+use mathlib.Core.List.{List, [], _++_, append-assoc, append-nil}
+use Prim.Native.Nat.{ℕ, _+_, _-_, _≤_}
 use native.Mathlib.Omega.{arith}
 use lib.IntN.{ℤ}
 use lib.ListN.{length, take, drop, length-append, drop-of-length-le}
-use lib.Seq.{sets, sets-eq, length-sets, take-set-le, take-append-seam}
+use lib.Seq.{sets, sets-eq, length-sets, take-append-seam}
 use borrow.Author.Tests.{le-leb}
 use Rattle.text.specs.Bytes.{Bytes, lineFeed, split}
 use Rattle.text.specs.Parts.{until}
@@ -22,12 +22,6 @@ pub record LaidTo (bs : Bytes) (at : ℕ) (run : List ℤ) (out : ℕ) : Type 0 
   pub whole : textCells bs ≡ front ++ linesCells (lineParts bs at)
   pub place : out ≡ length front
   pub held : Begins run front
-
--- ---- the run with cells laid behind its front
-
-take-sets : (n : ℕ) (run : List ℤ) (o : ℕ) (zs : List ℤ) → n ≤ o → take n (sets run o zs) ≡ take n run
-take-sets n run o [] h = refl
-take-sets n run o (z ∷ zs) h = take-sets n _ (suc o) zs (omega arith) ∙ take-set-le n run o z h
 
 begins-more : (run front zs : List ℤ) → Begins run front → Begins (laid run (length front) zs) (front ++ zs)
 unfolding laid
@@ -60,17 +54,15 @@ laid-line bs at to run out {next} {o} l e h p q =
       held = rw (p, l .place) (begins-more run (l .front) zs (l .held));
     }
 
--- cells laid behind the front that do not count
-pub laid-over : (bs : Bytes) (at : ℕ) (run : List ℤ) (out : ℕ) (zs : List ℤ) {next : List ℤ} → LaidTo bs at run out
-    → next ≡ laid run out zs → LaidTo bs at next out
-unfolding laid
-laid-over bs at run out zs {next} l p = record {
+-- another run with the same front: what stands behind it does not count
+pub laid-same : (bs : Bytes) (at : ℕ) (run : List ℤ) (out : ℕ) {next : List ℤ} → LaidTo bs at run out
+    → length next ≡ length run → take out next ≡ take out run → LaidTo bs at next out
+laid-same bs at run out {next} l n p = record {
   front = l .front;
   whole = l .whole;
   place = l .place;
   held = λ h.
-      let n : length next ≡ length run = ap length p ∙ length-sets run out zs in
-      ap (take (length (l .front))) p ∙ take-sets (length (l .front)) run out zs (omega (arith, l .place)) ∙ l .held (omega arith);
+      ap (λ (k : ℕ). take k next) (sym (l .place)) ∙ p ∙ ap (λ (k : ℕ). take k run) (l .place) ∙ l .held (omega arith);
 }
 
 -- every line

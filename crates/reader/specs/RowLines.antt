@@ -1,10 +1,11 @@
 -- Serves the code's pass over the lines; no demand cites it. A run of D lines read with the tables alone, and the reading after it.
 -- Assumes nothing.
 use mathlib.Core.Path.{_≡_, refl, sym, ap, _∙_, subst}
-use mathlib.Core.Bool.{true, false}
+use mathlib.Core.Bool.{Bool, true, false, _&&_}
 use mathlib.Core.List.{List}
 use Prim.Native.Nat.{ℕ, _+_, _-_, _<_, _≤_}
 use native.Mathlib.Omega.{arith}
+use lib.Dec.{eqb}
 use lib.IntN.{ℤ}
 use lib.ListN.{length, take, drop}
 use Rattle.cells.specs.BoolLaws.{clash}
@@ -15,7 +16,7 @@ use Rattle.text.specs.Forms.{lineRead}
 use Rattle.text.specs.declared.line.LineRead.the-variants as R
 use Rattle.load.specs.Cells.{textCells}
 use Rattle.load.specs.Run.{Begins}
-use Rattle.reader.specs.State.{afterRow}
+use Rattle.reader.specs.State.{cellsAfter, afterRow, withCounts}
 use Rattle.reader.specs.Survey.{withTables, afterRead, stepIn, readFrom, surveyOf, Bounded}
 use Rattle.reader.specs.SurveyLaws.{row-there, from-step}
 use Rattle.reader.specs.declared.tables.Tables.{Tables}
@@ -53,6 +54,18 @@ rows-turn bs from at to k t u v r e l h x d = (
   rw d (omega arith),
   λ s p. r .4 s p ∙ from-step (withTables s u) bs at to e h (row-there (withTables s u) k p d ∙ ap (afterRead (withTables s u)) x),
 )
+
+-- the same with the rows, the cells and question 4's answer counted beside the tables
+pub rows-more : (bs : Bytes) (from at to k : ℕ) (t : Tables) (rows cells : ℕ) (even : Bool) {c : ℕ} {b : Bool}
+    → RowsTo bs from t at (withCounts t rows cells even) → to ≡ at + until lineFeed (drop at bs)
+    → at ≤ to → to < length bs → R.Row k ≡ lineRead (lineOf (take (to - at) (drop at bs)))
+    → c ≡ cellsAfter cells k → b ≡ (even && eqb k (t .columns)) → RowsTo bs from t (to + 1) (withCounts t (rows + 1) c b)
+unfolding afterRow
+rows-more bs from at to k t rows cells even {c} {b} r e l h x p q =
+    rows-turn bs from at to k t (withCounts t rows cells even) (withCounts t (rows + 1) c b) r e l h x (rw (p, q))
+
+pub rows-put : (bs : Bytes) (from : ℕ) (t : Tables) (at : ℕ) (u : Tables) {v : Tables} → RowsTo bs from t at u → v ≡ u → RowsTo bs from t at v
+rows-put bs from t at u r e = subst (λ (x : Tables). RowsTo bs from t at x) (sym e) r
 
 -- the run, with the other parts as they were
 pub reads-rows : (bs : Bytes) (at to : ℕ) (s : Reading) (u : Tables) {v : Reading} → Bounded at s → s .place .part ≡ 1

@@ -68,6 +68,18 @@ afterRow s n = record {
   even = s .even && eqb n (s .columns);
 }
 
+-- the tables with other counts: rows of the latest one, cells, and whether every row is as wide as its table
+abbrev pub withCounts : Tables → ℕ → ℕ → Bool → Tables
+withCounts s rows cells even = record {
+  count = s .count;
+  layout = s .layout;
+  columns = s .columns;
+  rows = rows;
+  cells = cells;
+  fits = s .fits;
+  even = even;
+}
+
 -- ---- J, C and K lines
 
 unfoldable pub noJoin : StoredJoin
