@@ -75,7 +75,7 @@ pub(crate) fn read_rows(
     first: usize,
 ) -> RowsRead
     requires { ⌜ (from ≤ length (now text)) × (length (now text) ≤ mostBytes) × (before .rows ≤ from) × (first ≤ from) × LaidTo (now text) from (now run) first ⌝ }
-    ensures { λ r. ⌜ RowsTo (now (text .entry)) from before (r .at) (r .tables) × (r .out ≤ r .at) × LaidTo (now (text .entry)) (r .at) (now (run .exit)) (r .out) ⌝ }
+    ensures { λ r. ⌜ RowsTo (now (text .entry)) 1 from before (r .at) (r .tables) × (r .out ≤ r .at) × LaidTo (now (text .entry)) (r .at) (now (run .exit)) (r .out) ⌝ }
 {
     let columns = before.columns;
     let mut rows = before.rows;

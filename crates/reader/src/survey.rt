@@ -7,6 +7,7 @@ use crate::place;
 use crate::place::Next;
 use crate::place::Place;
 use crate::row_lines;
+use crate::row_lines::RowsRead;
 use crate::tables;
 use crate::tables::Tables;
 use cells::limits::BYTES;
@@ -22,7 +23,7 @@ ghost use Rattle.text.specs.Bytes.{lineFeed};
 ghost use Rattle.text.specs.Parts.{until};
 ghost use Rattle.load.specs.Run.{LaidTo};
 ghost use Rattle.reader.specs.Survey.{start, withTables, withJoins, withPairs, told, stepIn, afterRead, Bounded};
-ghost use Rattle.reader.specs.RowLines.{ReadsTo, Surveyed};
+ghost use Rattle.reader.specs.RowLines.{RowsTo, Surveyed};
 
 // The place of the latest line, and what the lines of each part said so far.
 pub struct Reading {
@@ -35,13 +36,6 @@ pub struct Reading {
 // The reading with a line more, or refused: then the reading says nothing.
 pub struct Stepped {
     pub accepted: bool,
-    pub reading: Reading,
-}
-
-// A place in the text, the place behind the cells of the lines before it, and the reading of these lines.
-pub struct ReadTo {
-    pub at: usize,
-    pub out: usize,
     pub reading: Reading,
 }
 
@@ -135,44 +129,29 @@ fn after_line(s: Reading, x: LineRead) -> Stepped
     }
 }
 
-// A run of D lines more, where there is one at place `at` of the tables part.
-fn with_rows(text: &[u8], at: usize, s: Reading, cells: &mut [i32], out: usize) -> ReadTo
-    requires { ⌜ (at ≤ length (now text)) × (length (now text) ≤ mostBytes) × Bounded at s × (out ≤ at) × LaidTo (now text) at (now cells) out ⌝ }
-    ensures { λ r. ⌜ ReadsTo (now (text .entry)) at s (r .at) (r .reading) × (r .out ≤ r .at) × LaidTo (now (text .entry)) (r .at) (now (cells .exit)) (r .out) ⌝ }
-{
-    if s.place.part != place::TABLES {
-        return ReadTo {
-            at,
-            out,
-            reading: s,
-        };
-    }
-    let before = s.tables;
-    let rows = row_lines::read_rows(text, at, before, cells, out);
-    let t = rows.tables;
-    let next = with_tables(s, t);
-    ReadTo {
-        at: rows.at,
-        out: rows.out,
-        reading: next,
-    }
-}
-
-// Behind a line that was read, from `at` to `to`: its cells are put into the run, and the D lines after it are read.
+// Behind a line from `at` to `to` that has place `p`: its cells are put into the run, and the D lines after it are read.
 fn behind_line(
     text: &[u8],
     at: usize,
     to: usize,
-    s: Reading,
+    p: Place,
+    t: Tables,
     cells: &mut [i32],
     out: usize,
-) -> ReadTo
-    requires { ⌜ (to ≡ at + until lineFeed (drop at (now text))) × (at ≤ to) × (to < length (now text)) × (length (now text) ≤ mostBytes) × Bounded (to + 1) s
+) -> RowsRead
+    requires { ⌜ (to ≡ at + until lineFeed (drop at (now text))) × (at ≤ to) × (to < length (now text)) × (length (now text) ≤ mostBytes) × (t .rows ≤ to + 1)
         × (out ≤ at) × LaidTo (now text) at (now cells) out ⌝ }
-    ensures { λ r. ⌜ ReadsTo (now (text .entry)) (to + 1) s (r .at) (r .reading) × (r .out ≤ r .at) × LaidTo (now (text .entry)) (r .at) (now (cells .exit)) (r .out) ⌝ }
+    ensures { λ r. ⌜ RowsTo (now (text .entry)) (p .part) (to + 1) t (r .at) (r .tables) × (r .out ≤ r .at) × LaidTo (now (text .entry)) (r .at) (now (cells .exit)) (r .out) ⌝ }
 {
     let next = cell_run::put_line(&text[at..to], cells, out);
-    with_rows(text, to + 1, s, cells, next)
+    if p.part != place::TABLES {
+        return RowsRead {
+            at: to + 1,
+            out: next,
+            tables: t,
+        };
+    }
+    row_lines::read_rows(text, to + 1, t, cells, next)
 }
 
 // The whole text, or refused by question 2. The run begins with the text's cells where the text is not refused.
@@ -199,8 +178,9 @@ pub fn survey(text: &[u8], cells: &mut [i32]) -> Stepped
         let x = line::read_line(&text[at..to]);
         let next = after_line(s, x);
         if next.accepted {
-            let read = behind_line(text, at, to, next.reading, cells, out);
-            s = read.reading;
+            let reading = next.reading;
+            let read = behind_line(text, at, to, reading.place, reading.tables, cells, out);
+            s = with_tables(reading, read.tables);
             out = read.out;
             at = read.at;
         } else {

@@ -14,14 +14,14 @@ use Rattle.reader.proofs.row_lines.read_rows.Tie as tie
 
 abbrev Inv-loop : tie.InvT-loop
 Inv-loop text from before run₀ first columns rows₀ cells₀ even₀ out₀ at₀ run rows cells even out at =
-    (length text ≤ mostBytes) × (length run ≡ length run₀) × (out ≤ at) × RowsTo text from before at (withCounts before rows cells even)
+    (length text ≤ mostBytes) × (length run ≡ length run₀) × (out ≤ at) × RowsTo text 1 from before at (withCounts before rows cells even)
     × LaidTo text at run out
 
 abbrev μ-loop : tie.MeasureT-loop
 μ-loop text from before run₀ first columns rows₀ cells₀ even₀ out₀ at₀ run rows cells even out at = length text - at
 
 loop-holds : tie.Need-loop-holds Inv-loop μ-loop
-loop-holds c = let p = c .before .pre in (p .1, refl, p .3, rows-none _ _ _ (p .0) (p .2), p .4)
+loop-holds c = let p = c .before .pre in (p .1, refl, p .3, rows-none _ _ _ _ (p .0) (p .2), p .4)
 
 shared-slice-read-if1 : tie.Need-shared-slice-read-if1 Inv-loop μ-loop
 shared-slice-read-if1 c = search needs

@@ -2,7 +2,7 @@
 -- the run begins with the cells of the lines before it. Assumes nothing.
 use mathlib.Core.Path.{_≡_, refl, ap, sym, _∙_}
 use native.Mathlib.Omega.{arith}
-use Prim.Native.Nat.{_≤_, _-_}
+use Prim.Native.Nat.{_+_, _≤_, _-_}
 use lib.ListN.{length}
 use borrow.Author.Needs.{needs}
 use Rattle.cells.specs.BoolLaws.{clash}
@@ -12,7 +12,7 @@ use Rattle.text.specs.Parts.{linesFrom}
 use Rattle.load.specs.Run.{LaidTo, laid-start, laid-whole}
 use Rattle.reader.specs.Survey.{afterRead, readFrom, surveyOf, Bounded}
 use Rattle.reader.specs.SurveyLaws.{step-accepted, step-refused, survey-long, survey-start, from-end, from-open, from-refused, from-step, bounded-start, bounded-next}
-use Rattle.reader.specs.RowLines.{survey-refused}
+use Rattle.reader.specs.RowLines.{reads-rows, survey-refused}
 use Rattle.reader.proofs.survey.survey.Statement.{statement}
 use Rattle.reader.proofs.survey.survey.Tie as tie
 
@@ -77,39 +77,47 @@ after-line-requires c κs =
 behind-line-requires : tie.Need-behind-line-requires Inv-loop μ-loop
 unfolding lineFeed
 behind-line-requires c κs =
-    let q = c .before .before in
+    let t = c .before .before in
+    let q = t .before in
     let i = q .before .before .before in
     let p = i .before in
-    let d = p .before .before in (
-      p .part-end .ensures .0,
-      p .part-end .ensures .1,
-      i .if2 .left,
-      d .loop .inv .1,
-      bounded-next _ _ (d .loop .s) _ (q .before .read-line .result) (d .loop .inv .4) (omega arith)
-          (step-accepted _ (c .before .if3 .taken) ∙ q .after-line .ensures),
-      d .loop .inv .2,
-      d .loop .inv .6,
-    )
+    let d = p .before .before in
+    let b =
+    bounded-next _ (p .part-end .result + 1) (d .loop .s) _ (q .before .read-line .result) (d .loop .inv .4) (omega arith)
+    (step-accepted _ (t .if3 .taken) ∙ q .after-line .ensures) in
+    (p .part-end .ensures .0, p .part-end .ensures .1, i .if2 .left, d .loop .inv .1, b .1, d .loop .inv .2, d .loop .inv .6)
+
+with-tables-requires : tie.Need-with-tables-requires Inv-loop μ-loop
+with-tables-requires c κs = search needs
 
 loop-less : tie.Need-loop-less Inv-loop μ-loop
-loop-less c = search needs
+loop-less c =
+    let w = c .before .before in
+    let p = w .before .before .before .before .before .before .before .before in
+    let a = w .behind-line .ensures .0 .0 in
+    let b = p .part-end .ensures .1 in
+    let l = p .before .loop-test .taken in
+    omega arith
 
 loop-again : tie.Need-loop-again Inv-loop μ-loop
 unfolding lineFeed
 loop-again c =
     let w = c .before .before in
-    let q = w .before .before .before in
+    let t = w .before .before .before in
+    let q = t .before in
     let i = q .before .before .before in
     let p = i .before in
     let d = p .before .before in
+    let e = step-accepted _ (t .if3 .taken) ∙ q .after-line .ensures in
+    let b = bounded-next _ (p .part-end .result + 1) (d .loop .s) _ (q .before .read-line .result) (d .loop .inv .4) (omega arith) e in
     let r = w .behind-line .ensures in
-    let e = step-accepted _ (w .before .before .if3 .taken) ∙ q .after-line .ensures in (
-      r .0 .1,
+    let o = reads-rows _ _ _ _ _ b (r .0) (c .with-tables .ensures) in (
+      o .1,
       d .loop .inv .1,
       r .1,
       search needs,
-      r .0 .2,
-      d .loop .inv .5 ∙ from-step _ _ _ _ (p .part-end .ensures .0) (i .if2 .left) (e ∙ ap (afterRead _) (q .before .read-line .ensures)) ∙ r .0 .3,
+      o .2,
+      d .loop .inv .5 ∙ from-step _ _ _ _ (p .part-end .ensures .0) (i .if2 .left) (e ∙ ap (afterRead _) (q .before .read-line .ensures)) ∙ o .3,
       r .2,
     )
 
@@ -154,6 +162,7 @@ survey-spec =
     read-line-requires
     after-line-requires
     behind-line-requires
+    with-tables-requires
     loop-less
     loop-again
     same-length-2
