@@ -48,26 +48,43 @@ nextRead p R.NoForm = none
 unfoldable pub start : Reading
 start = record { place = record { part = 0 }; tables = noTables; joins = noJoins; pairs = noPairs }
 
+abbrev pub readingOf : Place → Tables → Joins → Pairs → Reading
+readingOf p t j q = record { place = p; tables = t; joins = j; pairs = q }
+
 abbrev pub atPlace : Reading → Place → Reading
 atPlace s p = record { place = p; tables = s .tables; joins = s .joins; pairs = s .pairs }
 
 abbrev pub withTables : Reading → Tables → Reading
 withTables s t = record { place = s .place; tables = t; joins = s .joins; pairs = s .pairs }
 
-abbrev pub withJoins : Reading → Joins → Reading
-withJoins s j = record { place = s .place; tables = s .tables; joins = j; pairs = s .pairs }
+-- the tables, the joins and the pairs with what a line says
+abbrev pub tablesTold : Tables → LineRead → Tables
+tablesTold t (R.Table n) = afterTable t n
+tablesTold t (R.Row n) = afterRow t n
+tablesTold t (R.Join k a b) = t
+tablesTold t (R.Condition c) = t
+tablesTold t (R.Order a b) = t
+tablesTold t R.NoForm = t
 
-abbrev pub withPairs : Reading → Pairs → Reading
-withPairs s p = record { place = s .place; tables = s .tables; joins = s .joins; pairs = p }
+abbrev pub joinsTold : Joins → LineRead → Joins
+joinsTold j (R.Table n) = j
+joinsTold j (R.Row n) = j
+joinsTold j (R.Join k a b) = afterJoin j k a b
+joinsTold j (R.Condition c) = afterCondition j c
+joinsTold j (R.Order a b) = j
+joinsTold j R.NoForm = j
+
+abbrev pub pairsTold : Pairs → LineRead → Pairs
+pairsTold p (R.Table n) = p
+pairsTold p (R.Row n) = p
+pairsTold p (R.Join k a b) = p
+pairsTold p (R.Condition c) = p
+pairsTold p (R.Order a b) = afterPair p a b
+pairsTold p R.NoForm = p
 
 -- the reading with what a line says
 abbrev pub told : Reading → LineRead → Reading
-told s (R.Table n) = withTables s (afterTable (s .tables) n)
-told s (R.Row n) = withTables s (afterRow (s .tables) n)
-told s (R.Join k a b) = withJoins s (afterJoin (s .joins) k a b)
-told s (R.Condition c) = withJoins s (afterCondition (s .joins) c)
-told s (R.Order a b) = withPairs s (afterPair (s .pairs) a b)
-told s R.NoForm = s
+told s x = record { place = s .place; tables = tablesTold (s .tables) x; joins = joinsTold (s .joins) x; pairs = pairsTold (s .pairs) x }
 
 -- the reading after a line at its place
 unfoldable pub readAt : Reading → LineRead → Option Place → Option Reading

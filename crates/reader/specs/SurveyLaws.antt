@@ -1,14 +1,17 @@
 -- Serves the code's pass over the lines; no demand cites it. The steps and the pass of Survey by the tests that the code makes.
 -- Assumes nothing.
 use mathlib.Core.Path.{_≡_, refl, sym, ap, _∙_, subst}
-use mathlib.Core.Bool.{true, false}
+use mathlib.Core.Bool.{Bool, true, false}
+use mathlib.Core.Logic.{_⊎_, inl, inr}
 use mathlib.Core.List.{List}
 use mathlib.Core.Option.{Option, none, some}
 use Prim.Native.Nat.{ℕ, _+_, _-_, _<_, _≤_}
 use native.Mathlib.Omega.{arith}
+use lib.Dec.{eqb, leb}
 use lib.ListN.{length, take, drop}
 use borrow.Author.Tests.{le-leb, lt-leb, eq-eqb, ne-eqb}
 use Rattle.cells.specs.BoolLaws.{clash}
+use Rattle.cells.specs.Choice.{if_then_else_}
 use Rattle.cells.specs.Limits.{mostBytes}
 use Rattle.text.specs.Bytes.{Bytes, lineFeed}
 use Rattle.text.specs.Lines.{lineOf}
@@ -17,9 +20,11 @@ use Rattle.text.specs.Forms.{lineRead}
 use Rattle.text.specs.declared.line.LineRead.{LineRead}
 use Rattle.text.specs.declared.line.LineRead.the-variants as R
 use Rattle.reader.specs.State.{noTables, noJoins, noJoin, noPairs, afterTable, afterRow, afterJoin, oneMore, afterCondition, afterPair}
-use Rattle.reader.specs.Survey.{opensAt, followsAt, nextRead, start, atPlace, withTables, told, readAt, afterRead, stepIn, onward, readLines, readFrom, surveyOf, Bounded}
+use Rattle.reader.specs.Survey.{opensAt, followsAt, nextRead, start, readingOf, atPlace, withTables, tablesTold, joinsTold, pairsTold, told, readAt, afterRead, stepIn, onward, readLines, readFrom, surveyOf, Bounded}
 use Rattle.reader.specs.declared.place.Place.{Place}
 use Rattle.reader.specs.declared.tables.Tables.{Tables}
+use Rattle.reader.specs.declared.join_lines.Joins.{Joins}
+use Rattle.reader.specs.declared.pairs.Pairs.{Pairs}
 use Rattle.reader.specs.declared.survey.Reading.{Reading}
 use Rattle.reader.specs.declared.survey.Stepped.{Stepped}
 
@@ -52,6 +57,35 @@ module _ (s : Reading) (x : LineRead) where
   pub read-nowhere : none ≡ nextRead (s .place) x → none ≡ afterRead s x
   unfolding readAt
   read-nowhere e = ap (readAt s x) e
+
+-- by the parts of the reading
+pub line-told : (p : Place) (t : Tables) (j : Joins) (q : Pairs) (x : LineRead) {p′ : Place} {t′ : Tables} {j′ : Joins} {q′ : Pairs}
+    → some p′ ≡ nextRead p x → t′ ≡ tablesTold t x → j′ ≡ joinsTold j x → q′ ≡ pairsTold q x
+    → some (readingOf p′ t′ j′ q′) ≡ afterRead (readingOf p t j q) x
+line-told p t j q x {p′} {t′} {j′} {q′} e a b c =
+    read-there (readingOf p t j q) x {t = readingOf p t′ j′ q′} e (rw (a, b, c))
+
+-- a line at a place outside the joins part, which is 2, says nothing of joins
+pub joins-other : (p q : Place) (j : Joins) (x : LineRead) {k : Joins} → some q ≡ nextRead p x → (q .part ≡ 2 → ⊥) → k ≡ j → k ≡ joinsTold j x
+unfolding opensAt followsAt
+joins-other p q j (R.Table n) e h g = g
+joins-other p q j (R.Row n) e h g = g
+joins-other p q j (R.Join i a b) {k} e h g = go (leb (p .part) 2) e
+  where
+    go : (t : Bool) → _≡_ {A = Option Place} (some q) (if t then some (record { part = 2 }) else none) → k ≡ afterJoin j i a b
+    go true e = absurd (h (let z : q ≡ record { part = 2 } = cc in ap (λ (r : Place). r .part) z))
+    go false e = clash cc
+joins-other p q j (R.Condition c) {k} e h g = go (eqb (p .part) 2) e
+  where
+    go : (t : Bool) → _≡_ {A = Option Place} (some q) (if t then some (record { part = 2 }) else none) → k ≡ afterCondition j c
+    go true e = absurd (h (let z : q ≡ record { part = 2 } = cc in ap (λ (r : Place). r .part) z))
+    go false e = clash cc
+joins-other p q j (R.Order a b) e h g = g
+joins-other p q j R.NoForm e h g = g
+
+pub either : {A B C : Type 0} → A ⊎ B → (A → C) → (B → C) → C
+either (inl a) f g = f a
+either (inr b) f g = g b
 
 -- a D line in the tables part stays there
 pub row-there : (s : Reading) (n : ℕ) {t : Tables} → s .place .part ≡ 1 → t ≡ afterRow (s .tables) n
@@ -110,6 +144,11 @@ module _ (s : Reading) (bs : Bytes) (at : ℕ) where
     from-step h p =
         ap (readFrom s) (line-closed bs at to e h) ∙ from-line s (take (to - at) (drop at bs)) (linesFrom bs (to + 1))
         ∙ ap (onward (λ (t : Reading). readFrom t (linesFrom bs (to + 1)))) (sym p)
+
+pub start-parts : {t : Tables} {j : Joins} {q : Pairs} → t ≡ noTables → j ≡ noJoins → q ≡ noPairs
+    → readingOf (record { part = 0 }) t j q ≡ start
+unfolding start
+start-parts a b c = rw (a, b, c)
 
 -- ---- no count passes the lines that were read
 

@@ -18,11 +18,12 @@ use text::part;
 ghost use mathlib.Core.Path.{_≡_};
 ghost use Prim.Native.Nat.{_+_, _<_, _≤_};
 ghost use lib.ListN.{length, drop};
+ghost use mathlib.Core.Bool.{false};
 ghost use Rattle.cells.specs.Limits.{mostBytes};
 ghost use Rattle.text.specs.Bytes.{lineFeed};
 ghost use Rattle.text.specs.Parts.{until};
 ghost use Rattle.load.specs.Run.{LaidTo};
-ghost use Rattle.reader.specs.Survey.{start, withTables, withJoins, withPairs, told, stepIn, afterRead, Bounded};
+ghost use Rattle.reader.specs.Survey.{tablesTold, joinsTold, pairsTold};
 ghost use Rattle.reader.specs.RowLines.{RowsTo, Surveyed};
 
 // The place of the latest line, and what the lines of each part said so far.
@@ -33,99 +34,72 @@ pub struct Reading {
     pub pairs: Pairs,
 }
 
-// The reading with a line more, or refused: then the reading says nothing.
+// The reading of a text, or refused: then the reading says nothing.
 pub struct Stepped {
     pub accepted: bool,
     pub reading: Reading,
 }
 
-// No line yet.
-pub fn start() -> Reading
-    ensures { λ r. ⌜ r ≡ start ⌝ }
+// A text that question 2 turns down.
+fn refused() -> Stepped
+    ensures { λ r. ⌜ r .accepted ≡ false ⌝ }
 {
-    let t = tables::no_tables();
-    let j = join_lines::no_joins();
-    let p = pairs::no_pairs();
-    Reading {
-        place: Place { part: 0 },
-        tables: t,
-        joins: j,
-        pairs: p,
+    let tables = tables::no_tables();
+    let joins = join_lines::no_joins();
+    let pairs = pairs::no_pairs();
+    Stepped {
+        accepted: false,
+        reading: Reading {
+            place: Place { part: 0 },
+            tables,
+            joins,
+            pairs,
+        },
     }
 }
 
-// The reading with other tables, joins or pairs.
-fn with_tables(s: Reading, t: Tables) -> Reading
-    ensures { λ r. ⌜ r ≡ withTables s t ⌝ }
-{
-    let mut next = s;
-    next.tables = t;
-    next
-}
-
-fn with_joins(s: Reading, j: Joins) -> Reading
-    ensures { λ r. ⌜ r ≡ withJoins s j ⌝ }
-{
-    let mut next = s;
-    next.joins = j;
-    next
-}
-
-fn with_pairs(s: Reading, p: Pairs) -> Reading
-    ensures { λ r. ⌜ r ≡ withPairs s p ⌝ }
-{
-    let mut next = s;
-    next.pairs = p;
-    next
-}
-
-// The reading with what a line says.
-fn with_line(s: Reading, x: LineRead) -> Reading
-    requires { ⌜ Bounded mostBytes s ⌝ }
-    ensures { λ r. ⌜ r ≡ told s x ⌝ }
+// The tables with what a line says.
+fn with_table(t: Tables, x: LineRead) -> Tables
+    requires { ⌜ (t .count < 65535) × (t .rows < 65535) ⌝ }
+    ensures { λ r. ⌜ r ≡ tablesTold t x ⌝ }
 {
     match x {
-        LineRead::Table(n) => {
-            let t = tables::after_table(s.tables, n);
-            with_tables(s, t)
-        }
-        LineRead::Row(n) => {
-            let t = tables::after_row(s.tables, n);
-            with_tables(s, t)
-        }
-        LineRead::Join(k, l, r) => {
-            let j = join_lines::after_join(s.joins, k, l, r);
-            with_joins(s, j)
-        }
-        LineRead::Condition(c) => {
-            let j = join_lines::after_condition(s.joins, c);
-            with_joins(s, j)
-        }
-        LineRead::Order(l, r) => {
-            let p = pairs::after_pair(s.pairs, l, r);
-            with_pairs(s, p)
-        }
-        LineRead::NoForm => s,
+        LineRead::Table(n) => tables::after_table(t, n),
+        LineRead::Row(n) => tables::after_row(t, n),
+        LineRead::Join(k, l, r) => t,
+        LineRead::Condition(c) => t,
+        LineRead::Order(l, r) => t,
+        LineRead::NoForm => t,
     }
 }
 
-// A line more.
-fn after_line(s: Reading, x: LineRead) -> Stepped
-    requires { ⌜ Bounded mostBytes s ⌝ }
-    ensures { λ r. ⌜ stepIn r ≡ afterRead s x ⌝ }
+// The joins with what a line says.
+fn with_join(j: Joins, x: LineRead) -> Joins
+    requires { ⌜ (j .count < 65535) × (j .«condition_count» < 65535) × (j .latest .count < 65535) ⌝ }
+    ensures { λ r. ⌜ r ≡ joinsTold j x ⌝ }
 {
-    let n = place::next_place(s.place, x);
-    let Next::At(p) = n else {
-        return Stepped {
-            accepted: false,
-            reading: s,
-        };
-    };
-    let mut next = with_line(s, x);
-    next.place = p;
-    Stepped {
-        accepted: true,
-        reading: next,
+    match x {
+        LineRead::Table(n) => j,
+        LineRead::Row(n) => j,
+        LineRead::Join(k, l, r) => join_lines::after_join(j, k, l, r),
+        LineRead::Condition(c) => join_lines::after_condition(j, c),
+        LineRead::Order(l, r) => j,
+        LineRead::NoForm => j,
+    }
+}
+
+// The pairs with what a line says.
+fn with_pair(q: Pairs, x: LineRead) -> Pairs
+    requires { ⌜ q .count < 65535 ⌝ }
+    ensures { λ r. ⌜ r ≡ pairsTold q x ⌝ }
+{
+    match x {
+        LineRead::Table(n) => q,
+        LineRead::Row(n) => q,
+        LineRead::Join(k, l, r) => q,
+        LineRead::Condition(c) => q,
+        LineRead::Order(l, r) => pairs::after_pair(q, l, r),
+        LineRead::NoForm => q,
     }
 }
 
@@ -154,41 +128,48 @@ fn behind_line(
     row_lines::read_rows(text, to + 1, t, cells, next)
 }
 
-// The whole text, or refused by question 2. The run begins with the text's cells where the text is not refused.
+// The whole text, or refused by question 2. The run begins with the text's cells where the text is not refused. The parts of the reading
+// are locals, and the joins, which are large to copy, are written at their own lines alone.
 pub fn survey(text: &[u8], cells: &mut [i32]) -> Stepped
     ensures { λ r. ⌜ Surveyed (now (text .entry)) (now (cells .exit)) r ⌝ }
 {
-    let mut s = start();
     if BYTES < text.len() {
-        return Stepped {
-            accepted: false,
-            reading: s,
-        };
+        return refused();
     }
+    let mut place = Place { part: 0 };
+    let mut tables = tables::no_tables();
+    let mut joins = join_lines::no_joins();
+    let mut pairs = pairs::no_pairs();
     let mut out = 0;
     let mut at = 0;
     while at < text.len() {
         let to = part::part_end(text, at, part::LINE_FEED);
         if text.len() <= to {
-            return Stepped {
-                accepted: false,
-                reading: s,
-            };
+            return refused();
         }
         let x = line::read_line(&text[at..to]);
-        let next = after_line(s, x);
-        if next.accepted {
-            let reading = next.reading;
-            let read = behind_line(text, at, to, reading.place, reading.tables, cells, out);
-            s = with_tables(reading, read.tables);
-            out = read.out;
-            at = read.at;
-        } else {
-            return next;
+        let n = place::next_place(place, x);
+        let Next::At(p) = n else {
+            return refused();
+        };
+        place = p;
+        if p.part == place::JOINS {
+            joins = with_join(joins, x);
         }
+        pairs = with_pair(pairs, x);
+        let told = with_table(tables, x);
+        let read = behind_line(text, at, to, p, told, cells, out);
+        tables = read.tables;
+        out = read.out;
+        at = read.at;
     }
     Stepped {
         accepted: true,
-        reading: s,
+        reading: Reading {
+            place,
+            tables,
+            joins,
+            pairs,
+        },
     }
 }
