@@ -95,9 +95,6 @@ row-there s n h e =
     (ap (withTables s) e)
 
 -- what an answer says
-pub step-accepted : (r : Stepped) → r .accepted ≡ true → some (r .reading) ≡ stepIn r
-step-accepted r h = rw h
-
 pub step-refused : (r : Stepped) → r .accepted ≡ false → stepIn r ≡ none
 step-refused r h = rw h
 

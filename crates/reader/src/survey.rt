@@ -128,14 +128,12 @@ fn behind_line(
     row_lines::read_rows(text, to + 1, t, cells, next)
 }
 
-// The whole text, or refused by question 2. The run begins with the text's cells where the text is not refused. The parts of the reading
-// are locals, and the joins, which are large to copy, are written at their own lines alone.
-pub fn survey(text: &[u8], cells: &mut [i32]) -> Stepped
+// The lines of a text, or refused by question 2. The parts of the reading are locals; the joins, which are large to copy, are written at
+// the lines of their part alone.
+fn read_lines(text: &[u8], cells: &mut [i32]) -> Stepped
+    requires { ⌜ length (now text) ≤ mostBytes ⌝ }
     ensures { λ r. ⌜ Surveyed (now (text .entry)) (now (cells .exit)) r ⌝ }
 {
-    if BYTES < text.len() {
-        return refused();
-    }
     let mut place = Place { part: 0 };
     let mut tables = tables::no_tables();
     let mut joins = join_lines::no_joins();
@@ -172,4 +170,14 @@ pub fn survey(text: &[u8], cells: &mut [i32]) -> Stepped
             pairs,
         },
     }
+}
+
+// The whole text, or refused by question 2. The run begins with the text's cells where the text is not refused.
+pub fn survey(text: &[u8], cells: &mut [i32]) -> Stepped
+    ensures { λ r. ⌜ Surveyed (now (text .entry)) (now (cells .exit)) r ⌝ }
+{
+    if BYTES < text.len() {
+        return refused();
+    }
+    read_lines(text, cells)
 }
