@@ -10,7 +10,9 @@ use crate::row_lines;
 use crate::row_lines::RowsRead;
 use crate::tables;
 use crate::tables::Tables;
+use cells::condition::Condition;
 use cells::limits::BYTES;
+use cells::limits::CONDITIONS;
 use load::cell_run;
 use text::line;
 use text::line::LineRead;
@@ -31,6 +33,7 @@ pub struct Reading {
     pub place: Place,
     pub tables: Tables,
     pub joins: Joins,
+    pub conditions: [Condition; CONDITIONS],
     pub pairs: Pairs,
 }
 
@@ -46,6 +49,7 @@ fn refused() -> Stepped
 {
     let tables = tables::no_tables();
     let joins = join_lines::no_joins();
+    let conditions = join_lines::no_conditions();
     let pairs = pairs::no_pairs();
     Stepped {
         accepted: false,
@@ -53,6 +57,7 @@ fn refused() -> Stepped
             place: Place { part: 0 },
             tables,
             joins,
+            conditions,
             pairs,
         },
     }
@@ -82,7 +87,7 @@ fn with_join(j: Joins, x: LineRead) -> Joins
         LineRead::Table(n) => j,
         LineRead::Row(n) => j,
         LineRead::Join(k, l, r) => join_lines::after_join(j, k, l, r),
-        LineRead::Condition(c) => join_lines::after_condition(j, c),
+        LineRead::Condition(c) => join_lines::after_condition(j),
         LineRead::Order(l, r) => j,
         LineRead::NoForm => j,
     }
@@ -128,8 +133,8 @@ fn behind_line(
     row_lines::read_rows(text, to + 1, t, cells, next)
 }
 
-// The lines of a text, or refused by question 2. The parts of the reading are locals; the joins, which are large to copy, are written at
-// the lines of their part alone.
+// The lines of a text, or refused by question 2. The parts of the reading are locals; the conditions, which are large to copy, are
+// written in place.
 fn read_lines(text: &[u8], cells: &mut [i32]) -> Stepped
     requires { ⌜ length (now text) ≤ mostBytes ⌝ }
     ensures { λ r. ⌜ Surveyed (now (text .entry)) (now (cells .exit)) r ⌝ }
@@ -137,6 +142,7 @@ fn read_lines(text: &[u8], cells: &mut [i32]) -> Stepped
     let mut place = Place { part: 0 };
     let mut tables = tables::no_tables();
     let mut joins = join_lines::no_joins();
+    let mut conditions = join_lines::no_conditions();
     let mut pairs = pairs::no_pairs();
     let mut out = 0;
     let mut at = 0;
@@ -151,9 +157,12 @@ fn read_lines(text: &[u8], cells: &mut [i32]) -> Stepped
             return refused();
         };
         place = p;
-        if p.part == place::JOINS {
-            joins = with_join(joins, x);
+        let k = join_lines::slot(joins.condition_count, x);
+        let c = join_lines::condition_in(x);
+        if k < CONDITIONS {
+            conditions[k] = c;
         }
+        joins = with_join(joins, x);
         pairs = with_pair(pairs, x);
         let told = with_table(tables, x);
         let read = behind_line(text, at, to, p, told, cells, out);
@@ -167,6 +176,7 @@ fn read_lines(text: &[u8], cells: &mut [i32]) -> Stepped
             place,
             tables,
             joins,
+            conditions,
             pairs,
         },
     }

@@ -5,23 +5,24 @@ use native.Mathlib.Omega.{arith}
 use Prim.Native.Nat.{_+_, _≤_, _-_}
 use lib.ListN.{length}
 use borrow.Author.Needs.{needs}
-use Rattle.cells.specs.Limits.{mostBytes}
+use Rattle.cells.specs.Limits.{mostBytes, mostConditions}
 use Rattle.text.specs.Bytes.{lineFeed}
 use Rattle.text.specs.Parts.{linesFrom}
 use Rattle.load.specs.Run.{LaidTo, laid-start, laid-whole}
-use Rattle.reader.specs.Survey.{nextIn, readingOf, afterRead, readFrom, surveyOf, Bounded}
-use Rattle.reader.specs.SurveyLaws.{step-refused, line-told, joins-other, either, read-nowhere, start-parts, survey-start, from-end, from-open, from-refused, from-step, bounded-start, bounded-next}
+use Rattle.reader.specs.Survey.{nextIn, readingOf, conditionsTold, afterRead, readFrom, surveyOf, Bounded}
+use Rattle.reader.specs.SurveyLaws.{step-refused, line-told, slot-taken, slot-past, conditions-room, told-room, either, read-nowhere, start-parts, survey-start, from-end, from-open, from-refused, from-step, bounded-start, bounded-next}
 use Rattle.reader.specs.RowLines.{reads-rows, survey-refused}
 use Rattle.reader.proofs.survey.read_lines.Statement.{statement}
 use Rattle.reader.proofs.survey.read_lines.Tie as tie
 
 abbrev Inv-loop : tie.InvT-loop
-Inv-loop text cells₀ place₀ tables₀ joins₀ pairs₀ out₀ at₀ cells place tables joins pairs out at =
-    (at ≤ length text) × (length text ≤ mostBytes) × (out ≤ at) × (length cells ≡ length cells₀) × Bounded at (readingOf place tables joins pairs)
-    × (surveyOf text ≡ readFrom (readingOf place tables joins pairs) (linesFrom text at)) × LaidTo text at cells out
+Inv-loop text cells₀ place₀ tables₀ joins₀ conditions₀ pairs₀ out₀ at₀ cells place tables joins conditions pairs out at =
+    (at ≤ length text) × (length text ≤ mostBytes) × (out ≤ at) × (length cells ≡ length cells₀) × Bounded at (readingOf place tables joins conditions pairs)
+    × (surveyOf text ≡ readFrom (readingOf place tables joins conditions pairs) (linesFrom text at)) × LaidTo text at cells out
+    × (length conditions ≡ mostConditions)
 
 abbrev μ-loop : tie.MeasureT-loop
-μ-loop text cells₀ place₀ tables₀ joins₀ pairs₀ out₀ at₀ cells place tables joins pairs out at = length text - at
+μ-loop text cells₀ place₀ tables₀ joins₀ conditions₀ pairs₀ out₀ at₀ cells place tables joins conditions pairs out at = length text - at
 
 no-tables-requires : tie.Need-no-tables-requires Inv-loop μ-loop
 no-tables-requires c κs = search needs
@@ -29,19 +30,23 @@ no-tables-requires c κs = search needs
 no-joins-requires : tie.Need-no-joins-requires Inv-loop μ-loop
 no-joins-requires c κs = search needs
 
+no-conditions-requires : tie.Need-no-conditions-requires Inv-loop μ-loop
+no-conditions-requires c κs = search needs
+
 no-pairs-requires : tie.Need-no-pairs-requires Inv-loop μ-loop
 no-pairs-requires c κs = search needs
 
 loop-holds : tie.Need-loop-holds Inv-loop μ-loop
 loop-holds c =
-    let e = start-parts (c .before .before .no-tables .ensures) (c .before .no-joins .ensures) (c .no-pairs .ensures) in (
+    let e = start-parts (c .before .before .before .no-tables .ensures) (c .before .before .no-joins .ensures) (c .before .no-conditions .ensures) (c .no-pairs .ensures) in (
       omega arith,
       omega arith,
       omega arith,
       refl,
       bounded-start _ e,
-      survey-start _ (c .before .before .before .before .pre) e,
+      survey-start _ (c .before .before .before .before .before .pre) e,
       laid-start _ _,
+      conditions-room (c .before .no-conditions .ensures),
     )
 
 part-end-requires : tie.Need-part-end-requires Inv-loop μ-loop
@@ -99,14 +104,26 @@ returns-2 c =
     let i = l .before .before in
     let p = i .before in
     let d = p .before .before in
-    let s = readingOf (d .loop .place) (d .loop .tables) (d .loop .joins) (d .loop .pairs) in
+    let s = readingOf (d .loop .place) (d .loop .tables) (d .loop .joins) (d .loop .conditions) (d .loop .pairs) in
     let e = read-nowhere s _ (ap nextIn (sym (n .enum-told .given .1)) ∙ a .next-place .ensures) in
     survey-refused _ _ _ r (step-refused _ r
     ∙ sym (d .loop .inv .5 ∙ from-refused _ _ _ _ (p .part-end .ensures .0) (i .if1 .left) (e ∙ ap (afterRead s) (l .read-line .ensures))))
 
+slot-requires : tie.Need-slot-requires Inv-loop μ-loop
+slot-requires c κs = search needs
+
+condition-in-requires : tie.Need-condition-in-requires Inv-loop μ-loop
+condition-in-requires c κs = search needs
+
+mul-conditions : tie.Need-mul-conditions Inv-loop μ-loop
+mul-conditions c = search needs
+
+array-set-from-conditions : tie.Need-array-set-from-conditions Inv-loop μ-loop
+array-set-from-conditions c = search needs
+
 with-join-requires : tie.Need-with-join-requires Inv-loop μ-loop
 with-join-requires c κs =
-    let i = c .before .before .before .before .before .before .before .before .before .before .before .loop .inv in
+    let i = c .before .before .before .before .before .before .before .before .before .before .before .before .loop .inv in
     let l = i .1 in
     let a = i .0 in
     let b = i .4 in
@@ -114,7 +131,7 @@ with-join-requires c κs =
 
 with-pair-requires : tie.Need-with-pair-requires Inv-loop μ-loop
 with-pair-requires c κs =
-    let i = c .before .before .before .before .before .before .before .before .before .before .before .loop .inv in
+    let i = c .before .before .before .before .before .before .before .before .before .before .before .before .before .loop .inv in
     let l = i .1 in
     let a = i .0 in
     let b = i .4 in
@@ -122,7 +139,7 @@ with-pair-requires c κs =
 
 with-table-requires : tie.Need-with-table-requires Inv-loop μ-loop
 with-table-requires c κs =
-    let i = c .before .before .before .before .before .before .before .before .before .before .before .before .loop .inv in
+    let i = c .before .before .before .before .before .before .before .before .before .before .before .before .before .before .loop .inv in
     let l = i .1 in
     let a = i .0 in
     let b = i .4 in
@@ -134,23 +151,29 @@ behind-line-requires c κs =
     let t = c .before in
     let q = t .before in
     let j = q .before in
-    let n = j .before .before .before in
+    let u = j .before in
+    let k = u .before .before in
+    let n = k .before .before in
     let a = n .before .before in
     let l = a .before in
     let i = l .before .before in
     let p = i .before in
     let d = p .before .before in
     let g = ap nextIn (sym (n .n .given .1)) ∙ a .next-place .ensures in
+    let x = l .read-line .result in
+    let f : u .if2 .conditions ≡ conditionsTold (d .loop .joins .«condition_count») (d .loop .conditions) x =
+    either (u .if2 .came) (λ y. slot-taken _ (d .loop .conditions) x (k .slot .ensures) (u .before .condition-in .ensures) (y .0 .taken) (y .1))
+    (λ y. slot-past _ (d .loop .conditions) x (k .slot .ensures) (d .loop .inv .7) (y .0 .left) (y .1)) in
     let e =
-    line-told (d .loop .place) (d .loop .tables) (d .loop .joins) (d .loop .pairs) (l .read-line .result) g (t .with-table .ensures)
-    (either (j .if2 .came) (λ y. y .2 ∙ y .1 .ensures) (λ y. joins-other (d .loop .place) _ _ (l .read-line .result) g (y .0 .left) (y .1))) (q .with-pair .ensures) in
-    let b = bounded-next _ (p .part-end .result + 1) _ _ (l .read-line .result) (d .loop .inv .4) (omega arith) e in
+    line-told (d .loop .place) (d .loop .tables) (d .loop .joins) (d .loop .conditions) (d .loop .pairs) x g (t .with-table .ensures) (j .with-join .ensures)
+    f (q .with-pair .ensures) in
+    let b = bounded-next _ (p .part-end .result + 1) _ _ x (d .loop .inv .4) (omega arith) e in
     (p .part-end .ensures .0, p .part-end .ensures .1, i .if1 .left, d .loop .inv .1, b .1, d .loop .inv .2, d .loop .inv .6)
 
 loop-less : tie.Need-loop-less Inv-loop μ-loop
 loop-less c =
     let w = c .before .before in
-    let p = w .before .before .before .before .before .before .before .before .before .before .before .before .before in
+    let p = w .before .before .before .before .before .before .before .before .before .before .before .before .before .before .before in
     let a = w .behind-line .ensures .0 .0 in
     let b = p .part-end .ensures .1 in
     let l = p .before .loop-test .taken in
@@ -163,17 +186,23 @@ loop-again c =
     let t = w .before .before in
     let q = t .before in
     let j = q .before in
-    let n = j .before .before .before in
+    let u = j .before in
+    let k = u .before .before in
+    let n = k .before .before in
     let a = n .before .before in
     let l = a .before in
     let i = l .before .before in
     let p = i .before in
     let d = p .before .before in
     let g = ap nextIn (sym (n .n .given .1)) ∙ a .next-place .ensures in
+    let x = l .read-line .result in
+    let f : u .if2 .conditions ≡ conditionsTold (d .loop .joins .«condition_count») (d .loop .conditions) x =
+    either (u .if2 .came) (λ y. slot-taken _ (d .loop .conditions) x (k .slot .ensures) (u .before .condition-in .ensures) (y .0 .taken) (y .1))
+    (λ y. slot-past _ (d .loop .conditions) x (k .slot .ensures) (d .loop .inv .7) (y .0 .left) (y .1)) in
     let e =
-    line-told (d .loop .place) (d .loop .tables) (d .loop .joins) (d .loop .pairs) (l .read-line .result) g (t .with-table .ensures)
-    (either (j .if2 .came) (λ y. y .2 ∙ y .1 .ensures) (λ y. joins-other (d .loop .place) _ _ (l .read-line .result) g (y .0 .left) (y .1))) (q .with-pair .ensures) in
-    let b = bounded-next _ (p .part-end .result + 1) _ _ (l .read-line .result) (d .loop .inv .4) (omega arith) e in
+    line-told (d .loop .place) (d .loop .tables) (d .loop .joins) (d .loop .conditions) (d .loop .pairs) x g (t .with-table .ensures) (j .with-join .ensures)
+    f (q .with-pair .ensures) in
+    let b = bounded-next _ (p .part-end .result + 1) _ _ x (d .loop .inv .4) (omega arith) e in
     let r = w .behind-line .ensures in
     let o = reads-rows _ _ _ _ _ b (r .0) refl in (
       o .1,
@@ -183,6 +212,7 @@ loop-again c =
       o .2,
       d .loop .inv .5 ∙ from-step _ _ _ _ (p .part-end .ensures .0) (i .if1 .left) (e ∙ ap (afterRead _) (l .read-line .ensures)) ∙ o .3,
       r .2,
+      told-room _ (d .loop .conditions) x f (d .loop .inv .7),
     )
 
 same-length-3 : tie.Need-same-length-3 Inv-loop μ-loop
@@ -201,6 +231,7 @@ read-lines-spec =
     μ-loop
     no-tables-requires
     no-joins-requires
+    no-conditions-requires
     no-pairs-requires
     loop-holds
     part-end-requires
@@ -217,6 +248,10 @@ read-lines-spec =
     refused-requires-2
     same-length-2
     returns-2
+    slot-requires
+    condition-in-requires
+    mul-conditions
+    array-set-from-conditions
     with-join-requires
     with-pair-requires
     with-table-requires
