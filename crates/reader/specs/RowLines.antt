@@ -3,6 +3,7 @@
 use mathlib.Core.Path.{_≡_, refl, sym, ap, _∙_, subst}
 use mathlib.Core.Bool.{Bool, true, false, _&&_}
 use mathlib.Core.List.{List}
+use mathlib.Core.Option.{some}
 use Prim.Native.Nat.{ℕ, _+_, _-_, _<_, _≤_}
 use native.Mathlib.Omega.{arith}
 use lib.Dec.{eqb}
@@ -80,6 +81,11 @@ reads-rows bs at to s u b r d = subst (λ (x : Reading). ReadsTo bs at s to x) (
   (omega arith, omega arith, omega arith, omega arith, omega arith, omega arith),
   r .4 s refl,
 )
+
+-- a text that is read to its end
+pub survey-passed : (bs : Bytes) (run : List ℤ) (s : Reading) {r : Stepped} → r ≡ record { accepted = true; reading = s } → some s ≡ surveyOf bs
+    → Begins run (textCells bs) → Surveyed bs run r
+survey-passed bs run s {r} e g b = (let k : stepIn r ≡ some s = rw e in k ∙ g, λ h. b)
 
 -- a text that is refused
 pub survey-refused : (bs : Bytes) (run : List ℤ) (r : Stepped) → r .accepted ≡ false → stepIn r ≡ surveyOf bs → Surveyed bs run r

@@ -69,6 +69,7 @@ fn nothing() -> Condition
     }
 }
 
+// The array of conditions before any line.
 pub(crate) fn no_conditions() -> [Condition; CONDITIONS]
     ensures { λ r. ⌜ r ≡ noConditions ⌝ }
 {

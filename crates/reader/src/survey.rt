@@ -1,4 +1,4 @@
-// One pass over the lines of a text: question 2, and what questions 3 to 9 are asked about.
+// One pass over the lines of a text: question 2, what questions 3 to 9 are asked about, and the cells.
 use crate::join_lines;
 use crate::join_lines::Joins;
 use crate::pairs;
@@ -18,14 +18,14 @@ use text::line;
 use text::line::LineRead;
 use text::part;
 ghost use mathlib.Core.Path.{_≡_};
+ghost use mathlib.Core.Bool.{true, false};
 ghost use Prim.Native.Nat.{_+_, _<_, _≤_};
 ghost use lib.ListN.{length, drop};
-ghost use mathlib.Core.Bool.{false};
 ghost use Rattle.cells.specs.Limits.{mostBytes};
 ghost use Rattle.text.specs.Bytes.{lineFeed};
 ghost use Rattle.text.specs.Parts.{until};
 ghost use Rattle.load.specs.Run.{LaidTo};
-ghost use Rattle.reader.specs.Survey.{tablesTold, joinsTold, pairsTold};
+ghost use Rattle.reader.specs.Survey.{readingOf, tablesTold, joinsTold, pairsTold};
 ghost use Rattle.reader.specs.RowLines.{RowsTo, Surveyed};
 
 // The place of the latest line, and what the lines of each part said so far.
@@ -55,6 +55,28 @@ fn refused() -> Stepped
         accepted: false,
         reading: Reading {
             place: Place { part: 0 },
+            tables,
+            joins,
+            conditions,
+            pairs,
+        },
+    }
+}
+
+// A text that question 2 does not turn down, and what its lines say.
+fn passed(
+    place: Place,
+    tables: Tables,
+    joins: Joins,
+    conditions: [Condition; CONDITIONS],
+    pairs: Pairs,
+) -> Stepped
+    ensures { λ r. ⌜ r ≡ record { accepted = true; reading = readingOf place tables joins conditions pairs } ⌝ }
+{
+    Stepped {
+        accepted: true,
+        reading: Reading {
+            place,
             tables,
             joins,
             conditions,
@@ -170,16 +192,7 @@ fn read_lines(text: &[u8], cells: &mut [i32]) -> Stepped
         out = read.out;
         at = read.at;
     }
-    Stepped {
-        accepted: true,
-        reading: Reading {
-            place,
-            tables,
-            joins,
-            conditions,
-            pairs,
-        },
-    }
+    passed(place, tables, joins, conditions, pairs)
 }
 
 // The whole text, or refused by question 2. The run begins with the text's cells where the text is not refused.

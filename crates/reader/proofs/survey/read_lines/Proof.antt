@@ -11,7 +11,7 @@ use Rattle.text.specs.Parts.{linesFrom}
 use Rattle.load.specs.Run.{LaidTo, laid-start, laid-whole}
 use Rattle.reader.specs.Survey.{nextIn, readingOf, conditionsTold, afterRead, readFrom, surveyOf, Bounded}
 use Rattle.reader.specs.SurveyLaws.{step-refused, line-told, slot-taken, slot-past, conditions-room, told-room, either, read-nowhere, start-parts, survey-start, from-end, from-open, from-refused, from-step, bounded-start, bounded-next}
-use Rattle.reader.specs.RowLines.{reads-rows, survey-refused}
+use Rattle.reader.specs.RowLines.{reads-rows, survey-passed, survey-refused}
 use Rattle.reader.proofs.survey.read_lines.Statement.{statement}
 use Rattle.reader.proofs.survey.read_lines.Tie as tie
 
@@ -215,13 +215,17 @@ loop-again c =
       told-room _ (d .loop .conditions) x f (d .loop .inv .7),
     )
 
+passed-requires : tie.Need-passed-requires Inv-loop μ-loop
+passed-requires c κs = search needs
+
 same-length-3 : tie.Need-same-length-3 Inv-loop μ-loop
-same-length-3 c = c .before .loop .inv .3
+same-length-3 c = c .before .before .loop .inv .3
 
 returns-3 : tie.Need-returns-3 Inv-loop μ-loop
 returns-3 c =
-    let i = c .before .loop .inv in
-    (sym (i .5 ∙ from-end _ _ _ (c .loop-test .left)), λ h. laid-whole _ _ _ _ (i .6) (omega arith))
+    let t = c .before in
+    let i = t .before .loop .inv in
+    survey-passed _ _ _ (c .passed .ensures) (sym (i .5 ∙ from-end _ _ _ (t .loop-test .left))) (laid-whole _ _ _ _ (i .6) (omega arith))
 
 pub read-lines-spec : {M : Type 1} → statement M
 read-lines-spec =
@@ -258,5 +262,6 @@ read-lines-spec =
     behind-line-requires
     loop-less
     loop-again
+    passed-requires
     same-length-3
     returns-3)
