@@ -62,6 +62,18 @@ def reports():
     wide = "".join(table(8, [[k, 1, 2, 3, 4, 5, 6, 7] for k in range(64)]) for _ in range(8))
     yield "cells-4096", wide + chain(8, "L", same_key)
     yield "refused-11", table(1, [[1]] * 256) + table(1, [[1]] * 2) + line("J", "I", 0, 1) + line("C", 0, 0, "=", 1, 0)
+    # table 1 is the left side, and its rows have the rows of table 0 from the last to the first
+    yield "falling-256", table(1, [[k] for k in range(256)]) + table(1, [[255 - k] for k in range(256)]) \
+        + line("J", "L", 1, 0) + same_key(1)[0]
+    yield "not-equal", table(1, [[1]] * 256) + table(1, [[1]] * 255 + [[2]]) + line("J", "L", 0, 1) + line("C", 0, 0, "<>", 1, 0)
+    yield "never-true", table(2, [[1, 2]] * 256) + table(2, [[1, 1]] * 256) + line("J", "L", 0, 1) + same_key(1)[0] \
+        + line("C", 0, 1, "<", 1, 1)
+    hours = "".join(table(1, [[3600 * k] for [k] in keys(r, 256)]) for _ in range(6))
+    yield "hours", hours + chain(6, "L", same_key)
+    # each table is joined to the table before it; sixteen keys stand in all tables, the others in one
+    sparse = "".join(table(1, [[k if k < 16 else 256 * t + k] for [k] in keys(r, 256)]) for t in range(7))
+    yield "mostly-blank", sparse + chain(7, "L", lambda t: [line("C", t - 1, 0, "=", t, 0)])
+    yield "three-rows", "".join(table(1, [[k] for k in range(3)]) for _ in range(8)) + chain(8, "L", same_key)
 
 
 def main():

@@ -16,7 +16,7 @@
      for its type; a count is the count of numbers, not of bytes;
    - no two of the buffers of one call overlap, and none overlaps the text;
    - nothing else reads or writes the buffers, or writes the text, during the call;
-   - the thread has 128 KiB of stack left. The most measured is 79,768 bytes (tests/capi/check).
+   - the thread has 128 KiB of stack left. The most measured is 48,480 bytes (tests/capi/check).
    A slice of the proved routine is two arguments here, the pointer and the count of its numbers, in this order.
    The routines keep nothing between calls, use no heap and no file, and call only memcpy and memset, so that calls
    with buffers of their own may run at the same time. */

@@ -12,7 +12,7 @@ use Rattle.plan.specs.Stands.{Stands}
 use Rattle.plan.specs.declared.query.StoredQuery.{StoredQuery}
 use Rattle.text.specs.Bytes.{Bytes}
 use Rattle.text.specs.Reading.{readReport}
-use Rattle.reader.specs.Outcome.{runAfter}
+use Rattle.reader.specs.Outcome.{RunAfter}
 use Rattle.accept.specs.declared.accept.Answer.{Answer}
 use Rattle.accept.specs.declared.accept.Outcome.{Outcome}
 use Rattle.accept.specs.declared.accept.Outcome.the-variants.{Refused, Accepted}
@@ -41,5 +41,5 @@ pub record Kept (bs : Bytes) (before after : List ℤ) (s : StoredQuery) : Type 
 -- what a call answers, with the run of cells before and after it
 pub record Accepts (bs : Bytes) (before after : List ℤ) (a : Answer) : Type 0 where
   pub answer : numberIn (a .outcome) ≡ refusal bs
-  pub run : after ≡ runAfter bs before
+  pub run : RunAfter bs before after
   pub kept : a .outcome ≡ Accepted → Kept bs before after (a .query)

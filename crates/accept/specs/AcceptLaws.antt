@@ -22,7 +22,7 @@ use Rattle.questions.specs.Kept.{room-of}
 use Rattle.questions.specs.Whole.{whole-five, whole-six, whole-seven, whole-eight}
 use Rattle.text.specs.Bytes.{Bytes}
 use Rattle.text.specs.Reading.{readReport}
-use Rattle.reader.specs.Outcome.{turnedDown, says, answerIn, readOutcome, runAfter}
+use Rattle.reader.specs.Outcome.{turnedDown, says, answerIn, readOutcome, RunAfter}
 use Rattle.reader.specs.declared.read.Answer as Read
 use Rattle.reader.specs.declared.read.Outcome.the-variants as O
 use Rattle.accept.specs.Accept.{refusal, numberIn, Asked, Kept, Accepts}
@@ -91,7 +91,7 @@ pub refusal-read : (bs : Bytes) (r : Report) → readReport bs ≡ some r → re
 unfolding refusal
 refusal-read bs r e = ap (λ (o : Option Report). elim o as (λ z. Option ℕ) [ none ↦ some 2 | some x ↦ firstNo sharedQuestions x ]) e
 
-module _ (bs : Bytes) (before after : List ℤ) (a : Read.Answer) (e : answerIn a ≡ readOutcome bs) (f : after ≡ runAfter bs before) where
+module _ (bs : Bytes) (before after : List ℤ) (a : Read.Answer) (e : answerIn a ≡ readOutcome bs) (f : RunAfter bs before after) where
   pub call-refused : (n : ℕ) (q : StoredQuery) → a .outcome ≡ O.Refused n → Accepts bs before after (record { outcome = Refused n; query = q })
   unfolding numberIn
   call-refused n q h =

@@ -5,12 +5,10 @@ use mathlib.Core.Bool.{true, _&&_}
 use mathlib.Core.List.{List, [], _∷_, _++_}
 use mathlib.Core.Option.{Option, none, some}
 use Prim.Native.Nat.{ℕ, _+_, _<_, _≤_}
-use native.Mathlib.Nat.{zero-add}
 use native.Mathlib.Omega.{arith}
 use lib.Dec.{leb}
 use lib.IntN.{ℤ}
-use lib.ListN.{length, drop, length-append}
-use lib.Seq.{sets-eq}
+use lib.ListN.{length, drop, length-append, take-append-drop}
 use mir.Facts.{and-yes, leb-yes}
 use Rattle.cells.specs.BoolLaws.{is-true, clash}
 use Rattle.cells.specs.Limits.{mostTables, mostCells, mostConditions, cellRoom}
@@ -27,10 +25,10 @@ use Rattle.text.specs.Bytes.{Bytes}
 use Rattle.text.specs.Lines.{Line}
 use Rattle.text.specs.Reading.{earlyRows, tablesIn, textLines, reportOf, readReport}
 use Rattle.text.specs.ReadingLaws.{no-early-row, read-report}
-use Rattle.load.specs.Cells.{laid}
+use Rattle.load.specs.Run.{Begins}
 use Rattle.load.specs.Flat.{flatRows, flatTables, text-cells}
 use Rattle.reader.specs.Query.{storedOf, done, stored-tables, stored-numbered}
-use Rattle.reader.specs.Outcome.{TextOutcome, turnedDown, says, readOutcome, outcomeOf, linesOutcome, runAfter, run-accepted}
+use Rattle.reader.specs.Outcome.{TextOutcome, turnedDown, says, readOutcome, outcomeOf, linesOutcome, RunAfter}
 use Rattle.reader.specs.Whole as W
 use Rattle.reader.specs.Ranges.{joins-room, join-range}
 use Rattle.reader.specs.Conditions.{condition-seen}
@@ -82,7 +80,7 @@ module _ (bs : Bytes) (ls : List Line) (read : textLines bs ≡ some ls) (yes : 
     cells-same = cells-whole ls early (within .1) (within .2) even more;
   }
 
-  -- ---- the run that the text leaves: its cells, and what was there behind them
+  -- ---- the run that the text leaves: its cells, and what is there behind them
 
   says-kept : says (storedOf (done ls)) ≡ readOutcome bs
   unfolding readOutcome outcomeOf linesOutcome
@@ -94,23 +92,23 @@ module _ (bs : Bytes) (ls : List Line) (read : textLines bs ≡ some ls) (yes : 
   tables-length [] = refl
   tables-length (t ∷ xs) = length-append (flatRows (t .rows)) (flatTables xs) ∙ ap₂ _+_ (flat-length (t .rows)) (tables-length xs)
 
-  run-left : (before : List ℤ) → cellRoom ≤ length before → runAfter bs before ≡ flatTables ts ++ drop (length (flatTables ts)) before
-  unfolding laid
-  run-left before h =
-      sym (run-accepted bs before (storedOf (done ls)) says-kept)
-      ∙ ap (λ (zs : List ℤ). laid before 0 zs) (text-cells bs ls read)
-      ∙ sets-eq (flatTables ts) before 0 (omega (arith, tables-length ts, within .2))
-      ∙ rw (zero-add (length (flatTables ts)))
+  run-left : (before after : List ℤ) → RunAfter bs before after → cellRoom ≤ length before
+      → after ≡ flatTables ts ++ drop (length (flatTables ts)) after
+  run-left before after r h =
+      let few : length (flatTables ts) ≤ length after = omega (arith, tables-length ts, within .2, r .kept) in
+      let b : Begins after (flatTables ts) =
+      subst (λ (zs : List ℤ). Begins after zs) (text-cells bs ls read) (r .begins (storedOf (done ls)) says-kept) in
+      sym (ap (λ (zs : List ℤ). zs ++ drop (length (flatTables ts)) after) (sym (b few)) ∙ take-append-drop (length (flatTables ts)) after)
 
-  lines-kept : (before after : List ℤ) → after ≡ runAfter bs before
+  lines-kept : (before after : List ℤ) → RunAfter bs before after
       → (k : Kept bs before after (storedOf (done ls))) × (firstNo tableQuestions (k .report) ≡ none)
   lines-kept before after e = (
     record {
       report = reportOf ls;
       read = read-report bs ls read;
-      cells = flatTables ts ++ drop (length (flatTables ts)) before;
-      stands = stands (drop (length (flatTables ts)) before);
-      run = λ h. e ∙ run-left before h;
+      cells = flatTables ts ++ drop (length (flatTables ts)) after;
+      stands = stands (drop (length (flatTables ts)) after);
+      run = run-left before after e;
     },
     yes,
   )
@@ -133,7 +131,7 @@ read-refused bs n e = go (textLines bs) e
     go (some ls) e = lines (reportOf ls) (storedOf (done ls)) (firstNo tableQuestions (reportOf ls)) refl e
 
 -- what is kept, and that the tables passed their questions
-pub read-kept : (bs : Bytes) (s : StoredQuery) (before after : List ℤ) → says s ≡ readOutcome bs → after ≡ runAfter bs before
+pub read-kept : (bs : Bytes) (s : StoredQuery) (before after : List ℤ) → says s ≡ readOutcome bs → RunAfter bs before after
     → (k : Kept bs before after s) × (firstNo tableQuestions (k .report) ≡ none)
 unfolding readOutcome outcomeOf linesOutcome
 read-kept bs s before after e h = go (textLines bs) refl e

@@ -42,7 +42,7 @@ fn ask(q: StoredQuery) -> Outcome
     Outcome::Accepted
 }
 
-// The run has the text's cells where the text passes questions 2 to 4; else it is as it was.
+// The run begins with the text's cells where the text passes questions 2 to 4.
 pub fn accept(text: &[u8], cells: &mut [i32]) -> Answer
     ensures { λ r. ⌜ Accepts (now (text .entry)) (now (cells .entry)) (now (cells .exit)) r ⌝ }
 {

@@ -7,7 +7,7 @@ ghost use mathlib.Core.Path.{_≡_};
 ghost use Rattle.runner.specs.State.{startRun};
 ghost use Rattle.engine.specs.Preparing.{Prepares};
 
-// Questions 2 to 10 of a text. The cell run has the text's cells where it passes questions 2 to 4.
+// Questions 2 to 10 of a text. The cell run begins with the text's cells where it passes questions 2 to 4.
 pub(crate) fn prepare(text: &[u8], cells: &mut [i32]) -> Prepared
     ensures { λ r. ⌜ Prepares (now (text .entry)) (now (cells .entry)) (now (cells .exit)) r ⌝ }
 {

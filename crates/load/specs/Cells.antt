@@ -11,7 +11,7 @@ use lib.Dec.{eqb, leb}
 use lib.IntN.{ℤ}
 use lib.ListN.{length, take, drop, getD, set}
 use lib.Seq.{sets}
-use borrow.Author.Tests.{eq-eqb, ne-eqb, le-leb, lt-leb, leb-true, leb-false}
+use borrow.Author.Tests.{eq-eqb, ne-eqb, le-leb, leb-true, leb-false}
 use Rattle.cells.specs.Choice.{if_then_else_}
 use Rattle.text.specs.Bytes.{Bytes, tab, lineFeed, split}
 use Rattle.text.specs.Numbers.{cell}
@@ -49,12 +49,6 @@ laid run o zs = sets run o zs
 
 unfoldable pub behind : ℕ → List ℤ → ℕ
 behind o zs = o + length zs
-
-sets-append : (run : List ℤ) (o : ℕ) (xs ys : List ℤ) → sets run o (xs ++ ys) ≡ sets (sets run o xs) (o + length xs) ys
-sets-append run o [] ys = rw (add-zero o)
-sets-append run o (x ∷ xs) ys =
-    let e : suc o + length xs ≡ o + suc (length xs) = omega arith in
-    sets-append (set run o x) (suc o) xs ys ∙ rw e
 
 -- ---- cells
 
@@ -109,10 +103,6 @@ module _ (bs : Bytes) (at to : ℕ) (e : to ≡ at + until lineFeed (drop at bs)
   unfolding linesCells
   cells-here h = rw (line-here h)
 
-pub cells-past : (bs : Bytes) (at : ℕ) → length bs < at → linesCells (lineParts bs at) ≡ []
-unfolding linesCells lineParts
-cells-past bs at h = rw (lt-leb at (length bs) h)
-
 pub cells-all : (bs : Bytes) → textCells bs ≡ linesCells (lineParts bs 0)
 unfolding textCells lineParts
 cells-all bs = rw (le-leb 0 (length bs) (omega arith))
@@ -128,11 +118,6 @@ module _ (zs₀ : List ℤ) (run₀ run : List ℤ) (out o : ℕ) (ws : List ℤ
       → laid run₀ out zs₀ ≡ laid (set run o z) (o + 1) us
   unfolding laid
   laid-turn z us e s = s ∙ rw (e, add-one o)
-
-  pub laid-run : (xs us : List ℤ) → ws ≡ xs ++ us → laid run₀ out zs₀ ≡ laid run o ws
-      → laid run₀ out zs₀ ≡ laid (laid run o xs) (behind o xs) us
-  unfolding laid behind
-  laid-run xs us e s = s ∙ rw e (sets-append run o xs us)
 
 module _ (zs₀ : List ℤ) (out o : ℕ) (ws : List ℤ) where
   pub behind-stop : ws ≡ [] → behind out zs₀ ≡ behind o ws → o ≡ behind out zs₀

@@ -5,9 +5,8 @@ use text::part;
 ghost use mathlib.Core.Path.{_≡_};
 ghost use Prim.Native.Nat.{_+_, _≤_};
 ghost use lib.ListN.{length, set};
-ghost use Rattle.cells.specs.Limits.{mostBytes};
 ghost use Rattle.text.specs.Parts.{fieldsFrom};
-ghost use Rattle.load.specs.Cells.{goodCells, lineCells, textCells, laid, behind};
+ghost use Rattle.load.specs.Cells.{goodCells, lineCells, laid, behind};
 
 // The letter of a D line.
 const ROW: u8 = 68;
@@ -43,8 +42,8 @@ fn put_row(l: &[u8], at: usize, run: &mut [i32], out: usize) -> usize
     o
 }
 
-// The cells of a line, if it is a D line.
-fn put_line(l: &[u8], run: &mut [i32], out: usize) -> usize
+// The cells of a line, if it is a D line; the place behind them.
+pub fn put_line(l: &[u8], run: &mut [i32], out: usize) -> usize
     requires { ⌜ out + length (now l) ≤ 4294967296 ⌝ }
     ensures { λ r. ⌜ (now (run .exit) ≡ laid (now (run .entry)) out (lineCells (now (l .entry)))) × (r ≡ behind out (lineCells (now (l .entry))))
         × (r ≤ out + length (now (l .entry)) + 1) ⌝ }
@@ -56,18 +55,4 @@ fn put_line(l: &[u8], run: &mut [i32], out: usize) -> usize
         return out;
     }
     put_row(l, 2, run, out)
-}
-
-// The cells of a text.
-pub fn put_cells(text: &[u8], run: &mut [i32])
-    requires { ⌜ length (now text) ≤ mostBytes ⌝ }
-    ensures { λ _. ⌜ now (run .exit) ≡ laid (now (run .entry)) 0 (textCells (now (text .entry))) ⌝ }
-{
-    let mut out = 0;
-    let mut at = 0;
-    while at <= text.len() {
-        let to = part::part_end(text, at, part::LINE_FEED);
-        out = put_line(&text[at..to], run, out);
-        at = to + 1;
-    }
 }

@@ -52,6 +52,22 @@ unfolding digitsOf
 digits-more zero n p h = absurd (omega arith)
 digits-more (suc most) n p h = rw (digitsOf, lt-leb n 9 h, sub-one (suc most))
 
+-- a number of one, two or three digits has the same digits where more are allowed
+pub digits-one : (most n : ℕ) → 0 < most → n ≤ 9 → digitsOf most n ≡ digitsOf 1 n
+digits-one most n p h = digits-last most n p h ∙ sym (digits-last 1 n (omega arith) h)
+
+pub digits-two : (most n : ℕ) → 1 < most → 9 < n → n ≤ 99 → digitsOf most n ≡ digitsOf 2 n
+digits-two most n p g h =
+    digits-more most n (omega arith) g
+    ∙ ap (λ (b : Bytes). b ++ ((48 + n % 10) ∷ [])) (digits-one (most - 1) (n / 10) (omega arith) (omega arith))
+    ∙ sym (digits-more 2 n (omega arith) g)
+
+pub digits-three : (most n : ℕ) → 2 < most → 99 < n → n ≤ 999 → digitsOf most n ≡ digitsOf 3 n
+digits-three most n p g h =
+    digits-more most n (omega arith) (omega arith)
+    ∙ ap (λ (b : Bytes). b ++ ((48 + n % 10) ∷ [])) (digits-two (most - 1) (n / 10) (omega arith) (omega arith) (omega arith))
+    ∙ sym (digits-more 3 n (omega arith) (omega arith))
+
 -- ---- an entry of a row
 
 pub entry-blank : (x : ℕ) → x ≡ blankRow → entryField x ≡ tab ∷ bytes "-"
@@ -61,6 +77,11 @@ entry-blank x e = rw (eq-eqb x blankRow e)
 pub entry-number : (x : ℕ) → (x ≡ blankRow → ⊥) → entryField x ≡ numberField x
 unfolding entryField numberField printEntry
 entry-number x e = rw (ne-eqb x blankRow e)
+
+-- a number of few digits
+pub entry-few : (x most : ℕ) → x ≤ 999 → digitsOf 5 x ≡ digitsOf most x → entryField x ≡ tab ∷ digitsOf most x
+unfolding blankRow numberField field printNumber
+entry-few x most h e = entry-number x (λ (b : x ≡ blankRow). omega (arith, b, h)) ∙ ap (λ (b : Bytes). tab ∷ b) e
 
 -- ---- the numbers of the bits that are set
 

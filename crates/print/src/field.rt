@@ -2,7 +2,7 @@
 use crate::output;
 use cells::limits::CONDITIONS;
 use plan::bits;
-ghost use Prim.Native.Nat.{_+_, _≤_};
+ghost use Prim.Native.Nat.{_+_, _≤_, _<_};
 ghost use lib.ListN.{length};
 ghost use mathlib.Core.List.{flatMap};
 ghost use Rattle.text.specs.Print.{digitsOf, bitNumbers};
@@ -43,16 +43,51 @@ pub(crate) fn write_number(out: &mut [u8], at: usize, n: u64) -> usize
     write_digits(out, next, DIGITS, n)
 }
 
-// An entry of a row: a row number or blank.
+// The digit of a number below 10.
+fn one_digit(out: &mut [u8], at: usize, n: u16) -> usize
+    requires { ⌜ (n ≤ 9) × (at + 1 ≤ length (now out)) ⌝ }
+    ensures { λ r. ⌜ Written (now (out .entry)) at (digitsOf 1 n) 1 (now (out .exit)) r ⌝ }
+{
+    output::put(out, at, ZERO + (n as u8))
+}
+
+// The two digits of a number from 10 to 99.
+fn two_digits(out: &mut [u8], at: usize, n: u16) -> usize
+    requires { ⌜ (9 < n) × (n ≤ 99) × (at + 2 ≤ length (now out)) ⌝ }
+    ensures { λ r. ⌜ Written (now (out .entry)) at (digitsOf 2 n) 2 (now (out .exit)) r ⌝ }
+{
+    let next = one_digit(out, at, n / 10);
+    one_digit(out, next, n % 10)
+}
+
+// The three digits of a number from 100 to 999.
+fn three_digits(out: &mut [u8], at: usize, n: u16) -> usize
+    requires { ⌜ (99 < n) × (n ≤ 999) × (at + 3 ≤ length (now out)) ⌝ }
+    ensures { λ r. ⌜ Written (now (out .entry)) at (digitsOf 3 n) 3 (now (out .exit)) r ⌝ }
+{
+    let next = two_digits(out, at, n / 10);
+    one_digit(out, next, n % 10)
+}
+
+// An entry of a row: a row number or blank. A number of at most three digits, as all of an answer are, is written without recursion.
 pub(crate) fn write_entry(out: &mut [u8], at: usize, x: u16) -> usize
     requires { ⌜ at + fieldRoom ≤ length (now out) ⌝ }
     ensures { λ r. ⌜ Written (now (out .entry)) at (entryField x) fieldRoom (now (out .exit)) r ⌝ }
 {
+    let next = output::put(out, at, TAB);
+    if x < 10 {
+        return one_digit(out, next, x);
+    }
+    if x < 100 {
+        return two_digits(out, next, x);
+    }
+    if x < 1000 {
+        return three_digits(out, next, x);
+    }
     if x == cells::row::BLANK {
-        let next = output::put(out, at, TAB);
         return output::put(out, next, b'-');
     }
-    write_number(out, at, x as u64)
+    write_digits(out, next, DIGITS, x as u64)
 }
 
 // The number of a bit, if the bit is set.

@@ -15,7 +15,8 @@ use Rattle.text.specs.Reading.{Place, beforeAll, opens, follows, next, placed, 
 use Rattle.text.specs.Parts.{linesFrom}
 use Rattle.text.specs.Forms.{lineRead}
 use Rattle.reader.specs.Survey.{opensAt, followsAt, nextRead, start, atPlace, told, readAt, afterRead, onward, readLines, readFrom, surveyOf}
-use Rattle.reader.specs.Kept.{tablesAfter, joinsAfter, pairsAfter}
+use Rattle.reader.specs.State.{afterJoin, afterCondition}
+use Rattle.reader.specs.Kept.{tablesAfter, joinsAfter, conditionsAfter, pairsAfter}
 use Rattle.reader.specs.declared.place.Place.{Place as PlaceRead}
 use Rattle.reader.specs.declared.survey.Reading.{Reading}
 
@@ -55,13 +56,14 @@ linesAfter s ls = record {
   place = lastPlace (s .place) ls;
   tables = tablesAfter (s .tables) (tableLines ls);
   joins = joinsAfter (s .joins) (joinLines ls);
+  conditions = conditionsAfter (s .joins .«condition_count») (s .conditions) (joinLines ls);
   pairs = pairsAfter (s .pairs) (orderLines ls);
 }
 
 -- one line, and then the others
 lines-step : (s : Reading) (x : Line) (ls : List Line) (q : PlaceRead) → nextRead (s .place) (lineRead (some x)) ≡ some q
     → linesAfter (atPlace (told s (lineRead (some x))) q) ls ≡ linesAfter s (x ∷ ls)
-unfolding linesAfter lastPlace tablesAfter joinsAfter pairsAfter picked also ofTables ofJoins ofOrder
+unfolding linesAfter lastPlace tablesAfter joinsAfter conditionsAfter pairsAfter afterJoin afterCondition picked also ofTables ofJoins ofOrder
 lines-step s (tablesPart (tableLine n)) ls q e = rw e
 lines-step s (tablesPart (rowLine zs)) ls q e = rw e
 lines-step s (joinsPart (joinLine k a b)) ls q e = rw e
@@ -99,7 +101,7 @@ placed-step s x ls (some q) e =
     ∙ rw (placed-cons (placeOf (s .place)) x ls, next-same (s .place) x, e)
 
 lines-same : (s : Reading) (ls : List Bytes) → readLines s ls ≡ placedAfter s (readAll lineOf ls)
-unfolding readLines readAll placedAfter placed linesAfter lastPlace picked tablesAfter joinsAfter pairsAfter onward readAt both
+unfolding readLines readAll placedAfter placed linesAfter lastPlace picked tablesAfter joinsAfter conditionsAfter pairsAfter onward readAt both
 lines-same s [] = refl
 lines-same s (l ∷ ls) = go (λ (t : Reading). lines-same t ls) (lineOf l)
   where

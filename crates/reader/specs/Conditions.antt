@@ -20,7 +20,7 @@ use Rattle.plan.specs.Report.{noCondition, queryOf, conditionAt}
 use Rattle.text.specs.Lines.{Line}
 use Rattle.text.specs.LineParts.{joinLines}
 use Rattle.text.specs.Reading.{conditionsIn, reportOf}
-use Rattle.reader.specs.State.{noJoins}
+use Rattle.reader.specs.State.{noJoins, nothing, noConditions}
 use Rattle.reader.specs.Survey.{start}
 use Rattle.reader.specs.Agrees.{linesAfter}
 use Rattle.reader.specs.Kept.{conditions-kept}
@@ -44,10 +44,10 @@ behind n z vs t o h k =
 
 module _ (ls : List Line) (fits : length (conditionsIn ls) ≤ mostConditions) where
   beyond : (c : ℕ) → length (conditionsIn ls) ≤ c → getD ((storedOf (done ls)) .conditions) c noCondition .operator ≡ 0
-  unfolding storedOf linesAfter start noJoins
+  unfolding storedOf linesAfter start noJoins noConditions nothing
   beyond c h =
-      ap (λ (l : List Condition). getD l c noCondition .operator) (conditions-kept noJoins (joinLines ls))
-      ∙ behind mostConditions (record { table = 0; column = 0; operator = 0; side = Column 0 0 }) (conditionsIn ls) c refl fits h
+      ap (λ (l : List Condition). getD l c noCondition .operator) (conditions-kept 0 noConditions (joinLines ls))
+      ∙ behind mostConditions nothing (conditionsIn ls) c refl fits h
 
   pub condition-seen : (f : Cells) (c : ℕ) (row : Row)
       → trueIn f (getD ((storedOf (done ls)) .conditions) c noCondition) row ≡ trueIn f (conditionAt (queryOf (reportOf ls)) c) row

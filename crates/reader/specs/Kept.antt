@@ -8,6 +8,7 @@ use native.Mathlib.Numerals.{add-one}
 use native.Mathlib.Omega.{arith}
 use lib.ListN.{length, set}
 use lib.Seq.{sets}
+use Rattle.cells.specs.declared.condition.Condition.{Condition}
 use Rattle.rows.specs.Lists.{range}
 use Rattle.plan.specs.Report.{Table, Pair}
 use Rattle.plan.specs.Stored.{joinIn}
@@ -30,7 +31,13 @@ tablesAfter t (rowLine zs ∷ ls) = tablesAfter (afterRow t (length zs)) ls
 unfoldable pub joinsAfter : Joins → List JoinLine → Joins
 joinsAfter j [] = j
 joinsAfter j (joinLine k a b ∷ ls) = joinsAfter (afterJoin j (kindOf k) a b) ls
-joinsAfter j (conditionLine c ∷ ls) = joinsAfter (afterCondition j c) ls
+joinsAfter j (conditionLine c ∷ ls) = joinsAfter (afterCondition j) ls
+
+-- the array of conditions, behind a count of them
+unfoldable pub conditionsAfter : ℕ → List Condition → List JoinLine → List Condition
+conditionsAfter n cs [] = cs
+conditionsAfter n cs (joinLine k a b ∷ ls) = conditionsAfter n cs ls
+conditionsAfter n cs (conditionLine c ∷ ls) = conditionsAfter (n + 1) (set cs n c) ls
 
 unfoldable pub pairsAfter : Pairs → List OrderLine → Pairs
 pairsAfter p [] = p
@@ -56,15 +63,14 @@ pairs-kept p (orderLine a b ∷ ls) = pairs-kept (afterPair p a b) ls ∙ rw (ad
 pub conditions-count : (j : Joins) (ls : List JoinLine) → (joinsAfter j ls) .«condition_count» ≡ j .«condition_count» + length (conditionsOf ls)
 unfolding joinsAfter conditionsOf afterJoin afterCondition
 conditions-count j [] = sym (add-zero (j .«condition_count»))
-conditions-count j (conditionLine c ∷ ls) = let h = conditions-count (afterCondition j c) ls in omega arith
+conditions-count j (conditionLine c ∷ ls) = let h = conditions-count (afterCondition j) ls in omega arith
 conditions-count j (joinLine k a b ∷ ls) = conditions-count (afterJoin j (kindOf k) a b) ls
 
-pub conditions-kept : (j : Joins) (ls : List JoinLine)
-    → (joinsAfter j ls) .conditions ≡ sets (j .conditions) (j .«condition_count») (conditionsOf ls)
-unfolding joinsAfter conditionsOf afterJoin afterCondition
-conditions-kept j [] = refl
-conditions-kept j (conditionLine c ∷ ls) = conditions-kept (afterCondition j c) ls ∙ rw (add-one (j .«condition_count»))
-conditions-kept j (joinLine k a b ∷ ls) = conditions-kept (afterJoin j (kindOf k) a b) ls
+pub conditions-kept : (n : ℕ) (cs : List Condition) (ls : List JoinLine) → conditionsAfter n cs ls ≡ sets cs n (conditionsOf ls)
+unfolding conditionsAfter conditionsOf
+conditions-kept n cs [] = refl
+conditions-kept n cs (conditionLine c ∷ ls) = conditions-kept (n + 1) (set cs n c) ls ∙ rw (add-one n)
+conditions-kept n cs (joinLine k a b ∷ ls) = conditions-kept n cs ls
 
 -- ---- joins
 
@@ -96,7 +102,7 @@ pub joins-count : (j : Joins) (ls : List JoinLine) → (joinsAfter j ls) .count 
 unfolding joinsAfter storedJoins afterJoin afterCondition
 joins-count j [] = sym (add-zero (j .count))
 joins-count j (joinLine k a b ∷ ls) = let h = joins-count (afterJoin j (kindOf k) a b) ls in omega arith
-joins-count j (conditionLine c ∷ ls) = joins-count (afterCondition j c) ls ∙ rw (add-one (j .«condition_count»))
+joins-count j (conditionLine c ∷ ls) = joins-count (afterCondition j) ls ∙ rw (add-one (j .«condition_count»))
 
 pub joins-kept : (j : Joins) (ls : List JoinLine)
     → set ((joinsAfter j ls) .joins) ((joinsAfter j ls) .count - 1) ((joinsAfter j ls) .latest)
@@ -110,7 +116,7 @@ joins-kept j (joinLine k a b ∷ ls) =
 joins-kept j (conditionLine c ∷ ls) =
     let n = length (firstConditions (suc (j .«condition_count»)) ls) in
     let e : j .latest .count + 1 + n ≡ j .latest .count + suc n = omega arith in
-    joins-kept (afterCondition j c) ls ∙ rw (add-one (j .«condition_count»), e)
+    joins-kept (afterCondition j) ls ∙ rw (add-one (j .«condition_count»), e)
 
 -- ---- tables
 

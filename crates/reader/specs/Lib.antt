@@ -11,5 +11,6 @@ pub mod Looked
 pub mod Cells
 pub mod Conditions
 pub mod Ranges
+pub mod Row
 pub mod RowLines
 pub mod Whole

@@ -3,14 +3,11 @@ use mathlib.Core.Path.{_≡_, refl, sym, ap, ap₂, _∙_}
 use mathlib.Core.Bool.{Bool, true, false}
 use mathlib.Core.List.{List}
 use mathlib.Core.Option.{Option, none, some}
-use Prim.Native.Nat.{ℕ, _≤_}
-use native.Mathlib.Omega.{arith}
-use lib.Dec.{leb}
+use Prim.Native.Nat.{ℕ}
 use lib.IntN.{ℤ}
 use lib.ListN.{length}
-use borrow.Author.Tests.{leb-true}
+use Rattle.cells.specs.BoolLaws.{clash}
 use Rattle.cells.specs.Choice.{if_then_else_}
-use Rattle.cells.specs.Limits.{mostBytes}
 use Rattle.plan.specs.declared.query.StoredQuery.{StoredQuery}
 use Rattle.text.specs.Bytes.{Bytes}
 use Rattle.text.specs.Lines.{Line}
@@ -18,9 +15,9 @@ use Rattle.text.specs.Reading.{textLines, reportOf}
 use Rattle.text.specs.ReadingLaws.{no-early-row}
 use Rattle.plan.specs.TableQuestions.{question3, question4}
 use Rattle.plan.specs.Asking.{firstNo, tableQuestions}
-use Rattle.text.specs.Parts.{linesFrom}
-use Rattle.load.specs.Cells.{textCells, laid}
-use Rattle.reader.specs.Survey.{start, stepIn, readFrom, surveyOf}
+use Rattle.load.specs.Cells.{textCells}
+use Rattle.load.specs.Run.{Begins}
+use Rattle.reader.specs.Survey.{start, stepIn, surveyOf}
 use Rattle.reader.specs.Agrees.{linesAfter, surveyed, survey-reads}
 use Rattle.reader.specs.Query.{storedOf, tablesFit, answer-3, answer-4}
 use Rattle.reader.specs.declared.read.Answer.{Answer}
@@ -54,13 +51,10 @@ outcomeOf (some ls) = linesOutcome ls
 unfoldable pub readOutcome : Bytes → TextOutcome
 readOutcome bs = outcomeOf (textLines bs)
 
--- the run of cells: the text's cells and then what was there, where the text passes questions 2 to 4
-unfoldable pub runBy : TextOutcome → Bytes → List ℤ → List ℤ
-runBy (turnedDown n) bs run = run
-runBy (says q) bs run = laid run 0 (textCells bs)
-
-unfoldable pub runAfter : Bytes → List ℤ → List ℤ
-runAfter bs run = runBy (readOutcome bs) bs run
+-- the run of cells: it is as long as it was; it begins with the text's cells where the text passes questions 2 to 4
+pub record RunAfter (bs : Bytes) (before after : List ℤ) : Type 0 where
+  pub kept : length after ≡ length before
+  pub begins : (q : StoredQuery) → says q ≡ readOutcome bs → Begins after (textCells bs)
 
 -- ---- by what the pass over the lines leaves
 
@@ -97,11 +91,6 @@ outcome-same bs = ap surveyOutcome (survey-reads bs) ∙ go (textLines bs) refl
 both-passed : (a b : Bool) (x : TextOutcome) → a ≡ true → b ≡ true → (if a then (if b then x else turnedDown 4) else turnedDown 3) ≡ x
 both-passed a b x h k = rw (h, k)
 
-short-by : (bs : Bytes) (s : Reading) (o : Option Reading) (t : Bool) → leb (length bs) mostBytes ≡ t
-    → _≡_ {A = Option Reading} (some s) (if t then o else none) → length bs ≤ mostBytes
-short-by bs s o true l e = leb-true (length bs) mostBytes l
-short-by bs s o false l e = absurd (let y : _≡_ {A = ℕ} 0 1 = cc in omega arith)
-
 module _ (bs : Bytes) (r : Stepped) (e : stepIn r ≡ surveyOf bs) where
   refused : r .accepted ≡ false → none ≡ surveyOf bs
   refused h = let k : none ≡ stepIn r = rw h in k ∙ e
@@ -133,16 +122,10 @@ module _ (bs : Bytes) (r : Stepped) (e : stepIn r ≡ surveyOf bs) where
       ap says p ∙ sym (both-passed (tablesFit (r .reading .tables)) (r .reading .tables .even) (says (storedOf (r .reading))) (sym f ∙ k) n)
       ∙ ap surveyOutcome (accepted h) ∙ outcome-same bs
 
-  pub text-short : r .accepted ≡ true → length bs ≤ mostBytes
-  unfolding surveyOf
-  text-short h = short-by bs (r .reading) (readFrom start (linesFrom bs 0)) (leb (length bs) mostBytes) refl (accepted h)
-
 -- ---- the run
 
-pub run-refused : (bs : Bytes) (run : List ℤ) (n : ℕ) → turnedDown n ≡ readOutcome bs → run ≡ runAfter bs run
-unfolding runAfter runBy
-run-refused bs run n e = ap (λ (o : TextOutcome). runBy o bs run) e
+pub run-refused : (bs : Bytes) (n : ℕ) (before after : List ℤ) → turnedDown n ≡ readOutcome bs → length after ≡ length before → RunAfter bs before after
+run-refused bs n before after e k = record { kept = k; begins = λ q p. clash (let z : turnedDown n ≡ says q = e ∙ sym p in cc) }
 
-pub run-accepted : (bs : Bytes) (run : List ℤ) (q : StoredQuery) → says q ≡ readOutcome bs → laid run 0 (textCells bs) ≡ runAfter bs run
-unfolding runAfter runBy
-run-accepted bs run q e = ap (λ (o : TextOutcome). runBy o bs run) e
+pub run-accepted : (bs : Bytes) (before after : List ℤ) → length after ≡ length before → Begins after (textCells bs) → RunAfter bs before after
+run-accepted bs before after k h = record { kept = k; begins = λ q p. h }

@@ -18,7 +18,7 @@ use Rattle.text.specs.Lines.{Line}
 use Rattle.text.specs.LineParts.{tableLines, joinLines, orderLines}
 use Rattle.text.specs.Reading.{firstConditions, earlyRows, tablesIn, joinsIn, conditionsIn, pairsIn, reportOf}
 use Rattle.plan.specs.TableQuestions.{cellsInRows, cellsInTables, tableFits, question3, question4}
-use Rattle.reader.specs.State.{noTables, noJoins, noPairs, closedRows}
+use Rattle.reader.specs.State.{noConditions, noTables, noJoins, noPairs, closedRows}
 use Rattle.reader.specs.Survey.{start}
 use Rattle.reader.specs.Agrees.{linesAfter}
 use Rattle.reader.specs.Kept.{storePair, storedJoins, stored-joins, more, pairs-count, pairs-kept, conditions-count, conditions-kept, joins-count, joins-kept, tables-count, columns-kept}
@@ -34,7 +34,7 @@ storedOf s = record {
   «join_count» = s .joins .count;
   joins = set (s .joins .joins) (s .joins .count - 1) (s .joins .latest);
   «condition_count» = s .joins .«condition_count»;
-  conditions = s .joins .conditions;
+  conditions = s .conditions;
   «pair_count» = s .pairs .count;
   pairs = s .pairs .pairs;
 }
@@ -167,10 +167,10 @@ kept-joins ls h =
 
 pub kept-conditions : (ls : List Line) → length (conditionsIn ls) ≤ mostConditions
     → take (length (conditionsIn ls)) ((storedOf (done ls)) .conditions) ≡ conditionsIn ls
-unfolding storedOf linesAfter start noJoins
+unfolding storedOf linesAfter start noJoins noConditions
 kept-conditions ls h =
-    ap (take (length (conditionsIn ls))) (conditions-kept noJoins (joinLines ls))
-    ∙ sets-take (noJoins .conditions) (conditionsIn ls) h
+    ap (take (length (conditionsIn ls))) (conditions-kept 0 noConditions (joinLines ls))
+    ∙ sets-take noConditions (conditionsIn ls) h
 
 pub kept-pairs : (ls : List Line) → take (length (pairsIn ls)) ((storedOf (done ls)) .pairs) ≡ take mostPairs (map storePair (pairsIn ls))
 unfolding storedOf linesAfter start noPairs

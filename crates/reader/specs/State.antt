@@ -1,6 +1,7 @@
 -- Serves the code's pass over the lines; no demand cites it. What the lines read so far leave in the code's structs, line by line.
 -- Assumes nothing.
 use mathlib.Core.Bool.{Bool, true, _&&_}
+use mathlib.Core.List.{List}
 use Prim.Native.Nat.{ℕ, _+_, _-_}
 use lib.Dec.{eqb, leb}
 use lib.ListN.{set, replicate}
@@ -68,6 +69,18 @@ afterRow s n = record {
   even = s .even && eqb n (s .columns);
 }
 
+-- the tables with other counts: rows of the latest one, cells, and whether every row is as wide as its table
+abbrev pub withCounts : Tables → ℕ → ℕ → Bool → Tables
+withCounts s rows cells even = record {
+  count = s .count;
+  layout = s .layout;
+  columns = s .columns;
+  rows = rows;
+  cells = cells;
+  fits = s .fits;
+  even = even;
+}
+
 -- ---- J, C and K lines
 
 unfoldable pub noJoin : StoredJoin
@@ -79,8 +92,14 @@ noJoins = record {
   joins = replicate mostJoins noJoin;
   latest = noJoin;
   «condition_count» = 0;
-  conditions = replicate mostConditions (record { table = 0; column = 0; operator = 0; side = Column 0 0 });
 }
+
+-- what stands in the array of conditions where no line has put one
+unfoldable pub nothing : Condition
+nothing = record { table = 0; column = 0; operator = 0; side = Column 0 0 }
+
+unfoldable pub noConditions : List Condition
+noConditions = replicate mostConditions nothing
 
 unfoldable pub afterJoin : Joins → Kind → ℕ → ℕ → Joins
 afterJoin s k a b = record {
@@ -88,20 +107,18 @@ afterJoin s k a b = record {
   joins = set (s .joins) (s .count - 1) (s .latest);
   latest = record { kind = k; left = a; right = b; first = s .«condition_count»; count = 0 };
   «condition_count» = s .«condition_count»;
-  conditions = s .conditions;
 }
 
 -- a join with a condition more
 unfoldable pub oneMore : StoredJoin → StoredJoin
 oneMore j = record { kind = j .kind; left = j .left; right = j .right; first = j .first; count = j .count + 1 }
 
-unfoldable pub afterCondition : Joins → Condition → Joins
-afterCondition s c = record {
+unfoldable pub afterCondition : Joins → Joins
+afterCondition s = record {
   count = s .count;
   joins = s .joins;
   latest = oneMore (s .latest);
   «condition_count» = s .«condition_count» + 1;
-  conditions = set (s .conditions) (s .«condition_count») c;
 }
 
 -- ---- P lines

@@ -4,16 +4,17 @@ use mathlib.Core.List.{List, [], _∷_}
 use mathlib.Core.Option.{Option, none, some}
 use Prim.Native.Nat.{ℕ, _≤_}
 use lib.Dec.{eqb, leb}
-use lib.ListN.{length}
+use lib.ListN.{length, set}
 use Rattle.cells.specs.Choice.{if_then_else_}
-use Rattle.cells.specs.Limits.{mostBytes}
+use Rattle.cells.specs.Limits.{mostBytes, mostConditions}
+use Rattle.cells.specs.declared.condition.Condition.{Condition}
 use Rattle.text.specs.Bytes.{Bytes}
 use Rattle.text.specs.Lines.{lineOf}
 use Rattle.text.specs.Parts.{linesFrom}
 use Rattle.text.specs.Forms.{lineRead}
 use Rattle.text.specs.declared.line.LineRead.{LineRead}
 use Rattle.text.specs.declared.line.LineRead.the-variants as R
-use Rattle.reader.specs.State.{noTables, noJoins, noPairs, afterTable, afterRow, afterJoin, afterCondition, afterPair}
+use Rattle.reader.specs.State.{noTables, noJoins, nothing, noConditions, noPairs, afterTable, afterRow, afterJoin, afterCondition, afterPair}
 use Rattle.reader.specs.declared.place.Place.{Place}
 use Rattle.reader.specs.declared.place.Next.{Next}
 use Rattle.reader.specs.declared.place.Next.the-variants as N
@@ -46,28 +47,77 @@ nextRead p R.NoForm = none
 -- ---- one line more
 
 unfoldable pub start : Reading
-start = record { place = record { part = 0 }; tables = noTables; joins = noJoins; pairs = noPairs }
+start = record { place = record { part = 0 }; tables = noTables; joins = noJoins; conditions = noConditions; pairs = noPairs }
+
+abbrev pub readingOf : Place → Tables → Joins → List Condition → Pairs → Reading
+readingOf p t j cs q = record { place = p; tables = t; joins = j; conditions = cs; pairs = q }
 
 abbrev pub atPlace : Reading → Place → Reading
-atPlace s p = record { place = p; tables = s .tables; joins = s .joins; pairs = s .pairs }
+atPlace s p = record { place = p; tables = s .tables; joins = s .joins; conditions = s .conditions; pairs = s .pairs }
 
 abbrev pub withTables : Reading → Tables → Reading
-withTables s t = record { place = s .place; tables = t; joins = s .joins; pairs = s .pairs }
+withTables s t = record { place = s .place; tables = t; joins = s .joins; conditions = s .conditions; pairs = s .pairs }
 
-abbrev pub withJoins : Reading → Joins → Reading
-withJoins s j = record { place = s .place; tables = s .tables; joins = j; pairs = s .pairs }
+-- the tables, the joins and the pairs with what a line says
+abbrev pub tablesTold : Tables → LineRead → Tables
+tablesTold t (R.Table n) = afterTable t n
+tablesTold t (R.Row n) = afterRow t n
+tablesTold t (R.Join k a b) = t
+tablesTold t (R.Condition c) = t
+tablesTold t (R.Order a b) = t
+tablesTold t R.NoForm = t
 
-abbrev pub withPairs : Reading → Pairs → Reading
-withPairs s p = record { place = s .place; tables = s .tables; joins = s .joins; pairs = p }
+abbrev pub joinsTold : Joins → LineRead → Joins
+joinsTold j (R.Table n) = j
+joinsTold j (R.Row n) = j
+joinsTold j (R.Join k a b) = afterJoin j k a b
+joinsTold j (R.Condition c) = afterCondition j
+joinsTold j (R.Order a b) = j
+joinsTold j R.NoForm = j
+
+-- a line's place among the conditions, behind a count of them, and its condition
+abbrev pub slotOf : ℕ → LineRead → ℕ
+slotOf n (R.Table k) = mostConditions
+slotOf n (R.Row k) = mostConditions
+slotOf n (R.Join k a b) = mostConditions
+slotOf n (R.Condition c) = n
+slotOf n (R.Order a b) = mostConditions
+slotOf n R.NoForm = mostConditions
+
+abbrev pub conditionIn : LineRead → Condition
+conditionIn (R.Table k) = nothing
+conditionIn (R.Row k) = nothing
+conditionIn (R.Join k a b) = nothing
+conditionIn (R.Condition c) = c
+conditionIn (R.Order a b) = nothing
+conditionIn R.NoForm = nothing
+
+-- the conditions with what a line says, behind a count of them
+abbrev pub conditionsTold : ℕ → List Condition → LineRead → List Condition
+conditionsTold n cs (R.Table k) = cs
+conditionsTold n cs (R.Row k) = cs
+conditionsTold n cs (R.Join k a b) = cs
+conditionsTold n cs (R.Condition c) = set cs n c
+conditionsTold n cs (R.Order a b) = cs
+conditionsTold n cs R.NoForm = cs
+
+abbrev pub pairsTold : Pairs → LineRead → Pairs
+pairsTold p (R.Table n) = p
+pairsTold p (R.Row n) = p
+pairsTold p (R.Join k a b) = p
+pairsTold p (R.Condition c) = p
+pairsTold p (R.Order a b) = afterPair p a b
+pairsTold p R.NoForm = p
 
 -- the reading with what a line says
 abbrev pub told : Reading → LineRead → Reading
-told s (R.Table n) = withTables s (afterTable (s .tables) n)
-told s (R.Row n) = withTables s (afterRow (s .tables) n)
-told s (R.Join k a b) = withJoins s (afterJoin (s .joins) k a b)
-told s (R.Condition c) = withJoins s (afterCondition (s .joins) c)
-told s (R.Order a b) = withPairs s (afterPair (s .pairs) a b)
-told s R.NoForm = s
+told s x = record {
+  place = s .place;
+  tables = tablesTold (s .tables) x;
+  joins = joinsTold (s .joins) x;
+  conditions = conditionsTold (s .joins .«condition_count») (s .conditions) x;
+  pairs = pairsTold (s .pairs) x;
+}
 
 -- the reading after a line at its place
 unfoldable pub readAt : Reading → LineRead → Option Place → Option Reading

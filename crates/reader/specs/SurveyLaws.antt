@@ -2,24 +2,29 @@
 -- Assumes nothing.
 use mathlib.Core.Path.{_≡_, refl, sym, ap, _∙_, subst}
 use mathlib.Core.Bool.{true, false}
+use mathlib.Core.Logic.{_⊎_, inl, inr}
 use mathlib.Core.List.{List}
 use mathlib.Core.Option.{Option, none, some}
 use Prim.Native.Nat.{ℕ, _+_, _-_, _<_, _≤_}
 use native.Mathlib.Omega.{arith}
-use lib.ListN.{length, take, drop}
+use lib.ListN.{length, take, drop, set, length-set, length-replicate}
+use lib.Seq.{set-out}
 use borrow.Author.Tests.{le-leb, lt-leb, eq-eqb, ne-eqb}
 use Rattle.cells.specs.BoolLaws.{clash}
-use Rattle.cells.specs.Limits.{mostBytes}
+use Rattle.cells.specs.Limits.{mostBytes, mostConditions}
+use Rattle.cells.specs.declared.condition.Condition.{Condition}
 use Rattle.text.specs.Bytes.{Bytes, lineFeed}
 use Rattle.text.specs.Lines.{lineOf}
 use Rattle.text.specs.Parts.{until, linesFrom, withLine, line-closed, line-open, lines-none}
 use Rattle.text.specs.Forms.{lineRead}
 use Rattle.text.specs.declared.line.LineRead.{LineRead}
 use Rattle.text.specs.declared.line.LineRead.the-variants as R
-use Rattle.reader.specs.State.{noTables, noJoins, noJoin, noPairs, afterTable, afterRow, afterJoin, oneMore, afterCondition, afterPair}
-use Rattle.reader.specs.Survey.{opensAt, followsAt, nextRead, start, atPlace, withTables, told, readAt, afterRead, stepIn, onward, readLines, readFrom, surveyOf, Bounded}
+use Rattle.reader.specs.State.{noTables, noJoins, noJoin, nothing, noConditions, noPairs, afterTable, afterRow, afterJoin, oneMore, afterCondition, afterPair}
+use Rattle.reader.specs.Survey.{opensAt, followsAt, nextRead, start, readingOf, atPlace, withTables, tablesTold, joinsTold, slotOf, conditionIn, conditionsTold, pairsTold, told, readAt, afterRead, stepIn, onward, readLines, readFrom, surveyOf, Bounded}
 use Rattle.reader.specs.declared.place.Place.{Place}
 use Rattle.reader.specs.declared.tables.Tables.{Tables}
+use Rattle.reader.specs.declared.join_lines.Joins.{Joins}
+use Rattle.reader.specs.declared.pairs.Pairs.{Pairs}
 use Rattle.reader.specs.declared.survey.Reading.{Reading}
 use Rattle.reader.specs.declared.survey.Stepped.{Stepped}
 
@@ -53,6 +58,54 @@ module _ (s : Reading) (x : LineRead) where
   unfolding readAt
   read-nowhere e = ap (readAt s x) e
 
+-- by the parts of the reading
+pub line-told : (p : Place) (t : Tables) (j : Joins) (cs : List Condition) (q : Pairs) (x : LineRead)
+    {p′ : Place} {t′ : Tables} {j′ : Joins} {cs′ : List Condition} {q′ : Pairs}
+    → some p′ ≡ nextRead p x → t′ ≡ tablesTold t x → j′ ≡ joinsTold j x → cs′ ≡ conditionsTold (j .«condition_count») cs x → q′ ≡ pairsTold q x
+    → some (readingOf p′ t′ j′ cs′ q′) ≡ afterRead (readingOf p t j cs q) x
+line-told p t j cs q x {p′} {t′} {j′} {cs′} {q′} e a b c d =
+    read-there (readingOf p t j cs q) x {t = readingOf p t′ j′ cs′ q′} e (rw (a, b, c, d))
+
+-- the array of conditions with the line's condition at its place, or as it is where that is past the end
+pub slot-taken : (n : ℕ) (cs : List Condition) (x : LineRead) {ds : List Condition} {k : ℕ} {c : Condition} → k ≡ slotOf n x → c ≡ conditionIn x
+    → k < mostConditions → ds ≡ set cs k c → ds ≡ conditionsTold n cs x
+slot-taken n cs (R.Table i) e g h d = absurd (omega arith)
+slot-taken n cs (R.Row i) e g h d = absurd (omega arith)
+slot-taken n cs (R.Join i a b) e g h d = absurd (omega arith)
+slot-taken n cs (R.Condition c) e g h d = d ∙ rw (e, g)
+slot-taken n cs (R.Order a b) e g h d = absurd (omega arith)
+slot-taken n cs R.NoForm e g h d = absurd (omega arith)
+
+pub slot-past : (n : ℕ) (cs : List Condition) (x : LineRead) {ds : List Condition} {k : ℕ} → k ≡ slotOf n x → length cs ≡ mostConditions
+    → mostConditions ≤ k → ds ≡ cs → ds ≡ conditionsTold n cs x
+slot-past n cs (R.Table i) e l h d = d
+slot-past n cs (R.Row i) e l h d = d
+slot-past n cs (R.Join i a b) e l h d = d
+slot-past n cs (R.Condition c) e l h d = d ∙ sym (set-out cs n c (omega arith))
+slot-past n cs (R.Order a b) e l h d = d
+slot-past n cs R.NoForm e l h d = d
+
+-- the array is as long as it was
+pub conditions-room : {cs : List Condition} → cs ≡ noConditions → length cs ≡ mostConditions
+unfolding noConditions
+conditions-room e = rw e (length-replicate mostConditions nothing)
+
+pub told-room : (n : ℕ) (cs : List Condition) (x : LineRead) {ds : List Condition} → ds ≡ conditionsTold n cs x → length cs ≡ mostConditions
+    → length ds ≡ mostConditions
+told-room n cs x e l = ap length e ∙ go x ∙ l
+  where
+    go : (x : LineRead) → length (conditionsTold n cs x) ≡ length cs
+    go (R.Table i) = refl
+    go (R.Row i) = refl
+    go (R.Join i a b) = refl
+    go (R.Condition c) = length-set cs n c
+    go (R.Order a b) = refl
+    go R.NoForm = refl
+
+pub either : {A B C : Type 0} → A ⊎ B → (A → C) → (B → C) → C
+either (inl a) f g = f a
+either (inr b) f g = g b
+
 -- a D line in the tables part stays there
 pub row-there : (s : Reading) (n : ℕ) {t : Tables} → s .place .part ≡ 1 → t ≡ afterRow (s .tables) n
     → some (withTables s t) ≡ afterRead s (R.Row n)
@@ -61,9 +114,6 @@ row-there s n h e =
     (ap (withTables s) e)
 
 -- what an answer says
-pub step-accepted : (r : Stepped) → r .accepted ≡ true → some (r .reading) ≡ stepIn r
-step-accepted r h = rw h
-
 pub step-refused : (r : Stepped) → r .accepted ≡ false → stepIn r ≡ none
 step-refused r h = rw h
 
@@ -110,6 +160,11 @@ module _ (s : Reading) (bs : Bytes) (at : ℕ) where
     from-step h p =
         ap (readFrom s) (line-closed bs at to e h) ∙ from-line s (take (to - at) (drop at bs)) (linesFrom bs (to + 1))
         ∙ ap (onward (λ (t : Reading). readFrom t (linesFrom bs (to + 1)))) (sym p)
+
+pub start-parts : {t : Tables} {j : Joins} {cs : List Condition} {q : Pairs} → t ≡ noTables → j ≡ noJoins → cs ≡ noConditions → q ≡ noPairs
+    → readingOf (record { part = 0 }) t j cs q ≡ start
+unfolding start
+start-parts a b c d = rw (a, b, c, d)
 
 -- ---- no count passes the lines that were read
 

@@ -12,7 +12,7 @@ use Rattle.plan.specs.declared.query.StoredQuery.{StoredQuery}
 use Rattle.text.specs.Lines.{Line}
 use Rattle.text.specs.LineParts.{joinLines}
 use Rattle.text.specs.Reading.{firstConditions, tablesIn, conditionsIn, pairsIn, reportOf}
-use Rattle.reader.specs.State.{noJoins}
+use Rattle.reader.specs.State.{noJoins, noConditions}
 use Rattle.reader.specs.Survey.{start}
 use Rattle.reader.specs.Agrees.{linesAfter}
 use Rattle.reader.specs.Kept.{storedJoins, stored-joins, more, joins-kept, conditions-kept}
@@ -67,10 +67,10 @@ module _ (ls : List Line) where
       ∙ ap (take mostJoins) (stored-joins 0 (joinLines ls))
 
   first-conditions : take (length (conditionsIn ls)) (kept .conditions) ≡ take mostConditions (conditionsIn ls)
-  unfolding storedOf linesAfter start noJoins
+  unfolding storedOf linesAfter start noJoins noConditions
   first-conditions =
-      ap (take (length (conditionsIn ls))) (conditions-kept noJoins (joinLines ls))
-      ∙ sets-kept (noJoins .conditions) (conditionsIn ls)
+      ap (take (length (conditionsIn ls))) (conditions-kept 0 noConditions (joinLines ls))
+      ∙ sets-kept noConditions (conditionsIn ls)
 
   pub conditions-whole : queryIn kept .conditions ≡ take mostConditions (queryOf (reportOf ls) .conditions)
   unfolding queryIn queryOf reportOf

@@ -6,18 +6,19 @@ use cells::limits::CONDITIONS;
 use cells::limits::JOINS;
 use plan::query::StoredJoin;
 use rows::kind::Kind;
+use text::line::LineRead;
 ghost use mathlib.Core.Path.{_≡_};
 ghost use Prim.Native.Nat.{_+_, _-_, _<_};
 ghost use lib.ListN.{set};
-ghost use Rattle.reader.specs.State.{noJoins, afterJoin, afterCondition};
+ghost use Rattle.reader.specs.State.{noJoins, nothing, noConditions, afterJoin, afterCondition};
+ghost use Rattle.reader.specs.Survey.{slotOf, conditionIn};
 
-// The joins before the latest, the latest, and the conditions.
+// The joins before the latest, the latest, and how many conditions there are; these stand in an array of their own.
 pub struct Joins {
     pub count: u16,
     pub joins: [StoredJoin; JOINS],
     pub latest: StoredJoin,
     pub condition_count: u16,
-    pub conditions: [Condition; CONDITIONS],
 }
 
 // No line yet.
@@ -31,18 +32,11 @@ pub fn no_joins() -> Joins
         first: 0,
         count: 0,
     };
-    let nothing = Condition {
-        table: 0,
-        column: 0,
-        operator: 0,
-        side: Side::Column(0, 0),
-    };
     Joins {
         count: 0,
         joins: [none; JOINS],
         latest: none,
         condition_count: 0,
-        conditions: [nothing; CONDITIONS],
     }
 }
 
@@ -63,21 +57,52 @@ pub fn closed_joins(
     next
 }
 
-// The conditions with condition number `k`.
-pub fn with_condition(
-    conditions: [Condition; CONDITIONS],
-    k: u16,
-    c: Condition,
-) -> [Condition; CONDITIONS]
-    ensures { λ r. ⌜ r ≡ set conditions k c ⌝ }
+// What stands in the array of conditions where no line has put one.
+fn nothing() -> Condition
+    ensures { λ r. ⌜ r ≡ nothing ⌝ }
 {
-    let i = k as usize;
-    if CONDITIONS <= i {
-        return conditions;
+    Condition {
+        table: 0,
+        column: 0,
+        operator: 0,
+        side: Side::Column(0, 0),
     }
-    let mut next = conditions;
-    next[i] = c;
-    next
+}
+
+// The array of conditions before any line.
+pub(crate) fn no_conditions() -> [Condition; CONDITIONS]
+    ensures { λ r. ⌜ r ≡ noConditions ⌝ }
+{
+    let none = nothing();
+    [none; CONDITIONS]
+}
+
+// The place in the array of the condition that a line says, behind `count` of them; past its end where the line says none.
+pub(crate) fn slot(count: u16, x: LineRead) -> usize
+    ensures { λ r. ⌜ r ≡ slotOf count x ⌝ }
+{
+    match x {
+        LineRead::Table(n) => CONDITIONS,
+        LineRead::Row(n) => CONDITIONS,
+        LineRead::Join(k, l, r) => CONDITIONS,
+        LineRead::Condition(c) => count as usize,
+        LineRead::Order(l, r) => CONDITIONS,
+        LineRead::NoForm => CONDITIONS,
+    }
+}
+
+// The condition that a line says.
+pub(crate) fn condition_in(x: LineRead) -> Condition
+    ensures { λ r. ⌜ r ≡ conditionIn x ⌝ }
+{
+    match x {
+        LineRead::Table(n) => nothing(),
+        LineRead::Row(n) => nothing(),
+        LineRead::Join(k, l, r) => nothing(),
+        LineRead::Condition(c) => c,
+        LineRead::Order(l, r) => nothing(),
+        LineRead::NoForm => nothing(),
+    }
 }
 
 // A J line more.
@@ -89,7 +114,6 @@ pub(crate) fn after_join(s: Joins, kind: Kind, left: u16, right: u16) -> Joins
     let latest = s.latest;
     let before = s.joins;
     let joins = closed_joins(before, count, latest);
-    let conditions = s.conditions;
     Joins {
         count: count + 1,
         joins: joins,
@@ -101,19 +125,16 @@ pub(crate) fn after_join(s: Joins, kind: Kind, left: u16, right: u16) -> Joins
             count: 0,
         },
         condition_count: s.condition_count,
-        conditions: conditions,
     }
 }
 
 // A C or K line more.
-pub(crate) fn after_condition(s: Joins, c: Condition) -> Joins
+pub(crate) fn after_condition(s: Joins) -> Joins
     requires { ⌜ (s .«condition_count» < 65535) × (s .latest .count < 65535) ⌝ }
-    ensures { λ r. ⌜ r ≡ afterCondition s c ⌝ }
+    ensures { λ r. ⌜ r ≡ afterCondition s ⌝ }
 {
     let k = s.condition_count;
     let latest = s.latest;
-    let before = s.conditions;
-    let conditions = with_condition(before, k, c);
     let joins = s.joins;
     let kind = latest.kind;
     Joins {
@@ -127,6 +148,5 @@ pub(crate) fn after_condition(s: Joins, c: Condition) -> Joins
             count: latest.count + 1,
         },
         condition_count: k + 1,
-        conditions: conditions,
     }
 }

@@ -1,10 +1,9 @@
 // A report text read: questions 2, 3 and 4, the query, and the cells in the lent run. The other questions are put to the query.
 use crate::stored;
 use crate::survey;
-use load::cell_run;
 use plan::query::StoredQuery;
 ghost use mathlib.Core.Path.{_≡_};
-ghost use Rattle.reader.specs.Outcome.{answerIn, readOutcome, runAfter};
+ghost use Rattle.reader.specs.Outcome.{answerIn, readOutcome, RunAfter};
 
 // The number of the question that turned the text down; or accepted.
 pub enum Outcome {
@@ -18,11 +17,11 @@ pub struct Answer {
     pub query: StoredQuery,
 }
 
-// The run has the cells, each table's where the previous table's end, where the text is accepted; else it is as it was.
+// The run begins with the cells, each table's where the previous table's end, where the text is accepted.
 pub fn read(text: &[u8], cells: &mut [i32]) -> Answer
-    ensures { λ r. ⌜ (answerIn r ≡ readOutcome (now (text .entry))) × (now (cells .exit) ≡ runAfter (now (text .entry)) (now (cells .entry))) ⌝ }
+    ensures { λ r. ⌜ (answerIn r ≡ readOutcome (now (text .entry))) × RunAfter (now (text .entry)) (now (cells .entry)) (now (cells .exit)) ⌝ }
 {
-    let s = survey::survey(text);
+    let s = survey::survey(text, cells);
     let reading = s.reading;
     let query = stored::stored(reading);
     if !s.accepted {
@@ -44,7 +43,6 @@ pub fn read(text: &[u8], cells: &mut [i32]) -> Answer
             query: query,
         };
     }
-    cell_run::put_cells(text, cells);
     Answer {
         outcome: Outcome::Accepted,
         query: query,

@@ -1,38 +1,105 @@
-// A run of D lines in the tables part of a text, read with the tables alone: the other parts of a reading are large to copy at each line.
+// A run of D lines in the tables part of a text, read with the tables alone, in one look at each byte: the other parts of a reading are
+// large to copy at each line. No line is refused here: one that has another form ends the run, and `text::line` reads it.
 use crate::tables;
 use crate::tables::Tables;
-use text::line;
-use text::line::LineRead;
+use load::cell_run;
 use text::part;
-ghost use Prim.Native.Nat.{_≤_};
-ghost use lib.ListN.{length};
+use text::scan;
+use text::scan::CellAt;
+ghost use mathlib.Core.Path.{_≡_};
+ghost use Prim.Native.Nat.{_<_, _≤_};
+ghost use lib.ListN.{length, getD};
 ghost use Rattle.cells.specs.Limits.{mostBytes};
+ghost use Rattle.load.specs.Run.{LaidTo};
+ghost use Rattle.reader.specs.Row.{RowStands};
 ghost use Rattle.reader.specs.RowLines.{RowsTo};
 
-// The place after a run of D lines, and the tables with its rows.
+// The letter of a D line.
+const ROW: u8 = 68;
+
+// Of a D line: the place of its line feed, and the place behind its cells in the run.
+pub enum RowAt {
+    Value(usize, usize),
+    Bad,
+}
+
+// The D line at place `at`, its cells put into the run from place `out` on. Cells of a line that turns out to be none may stand behind
+// that place; they do not count.
+fn read_row(text: &[u8], at: usize, run: &mut [i32], out: usize) -> RowAt
+    requires { ⌜ (length (now text) ≤ mostBytes) × (at < length (now text)) × (getD (now text) at 0 ≡ 68) × (out ≤ at) ⌝ }
+    ensures { λ r. ⌜ RowStands (now (text .entry)) at (now (run .entry)) out (now (run .exit)) r ⌝ }
+{
+    let tab = at + 1;
+    if text.len() <= tab {
+        return RowAt::Bad;
+    }
+    if text[tab] != part::TAB {
+        return RowAt::Bad;
+    }
+    let mut o = out;
+    let mut i = tab + 1;
+    while i < text.len() {
+        let c = scan::cell_at(text, i);
+        let CellAt::Value(z, to) = c else {
+            return RowAt::Bad;
+        };
+        if text.len() <= to {
+            return RowAt::Bad;
+        }
+        cell_run::put(run, o, z);
+        o += 1;
+        if text[to] == part::LINE_FEED {
+            return RowAt::Value(to, o);
+        }
+        if text[to] != part::TAB {
+            return RowAt::Bad;
+        }
+        i = to + 1;
+    }
+    RowAt::Bad
+}
+
+// The place after a run of D lines, the place behind their cells in the run, and the tables with their rows.
 pub struct RowsRead {
     pub at: usize,
+    pub out: usize,
     pub tables: Tables,
 }
 
-// The D lines from place `from` on, up to the first line that has another form or is not closed.
-pub(crate) fn read_rows(text: &[u8], from: usize, before: Tables) -> RowsRead
-    requires { ⌜ (from ≤ length (now text)) × (length (now text) ≤ mostBytes) × (before .rows ≤ from) ⌝ }
-    ensures { λ r. ⌜ RowsTo (now (text .entry)) from before (r .at) (r .tables) ⌝ }
+// The D lines from place `from` on, up to the first line that has another form or is not closed; their cells are put into the run.
+pub(crate) fn read_rows(
+    text: &[u8],
+    from: usize,
+    before: Tables,
+    run: &mut [i32],
+    first: usize,
+) -> RowsRead
+    requires { ⌜ (from ≤ length (now text)) × (length (now text) ≤ mostBytes) × (before .rows ≤ from) × (first ≤ from) × LaidTo (now text) from (now run) first ⌝ }
+    ensures { λ r. ⌜ RowsTo (now (text .entry)) 1 from before (r .at) (r .tables) × (r .out ≤ r .at) × LaidTo (now (text .entry)) (r .at) (now (run .exit)) (r .out) ⌝ }
 {
-    let mut t = before;
+    let columns = before.columns;
+    let mut rows = before.rows;
+    let mut cells = before.cells;
+    let mut even = before.even;
+    let mut out = first;
     let mut at = from;
     while at < text.len() {
-        let to = part::part_end(text, at, part::LINE_FEED);
-        if text.len() <= to {
-            return RowsRead { at: at, tables: t };
+        if text[at] != ROW {
+            let tables = tables::with_counts(before, rows, cells, even);
+            return RowsRead { at, out, tables };
         }
-        let x = line::read_line(&text[at..to]);
-        let LineRead::Row(n) = x else {
-            return RowsRead { at: at, tables: t };
+        let r = read_row(text, at, run, out);
+        let RowAt::Value(to, next) = r else {
+            let tables = tables::with_counts(before, rows, cells, even);
+            return RowsRead { at, out, tables };
         };
-        t = tables::after_row(t, n);
+        let n = next - out;
+        even = tables::is_even(even, n, columns);
+        cells = tables::cells_after(cells, n);
+        rows += 1;
+        out = next;
         at = to + 1;
     }
-    RowsRead { at: at, tables: t }
+    let tables = tables::with_counts(before, rows, cells, even);
+    RowsRead { at, out, tables }
 }

@@ -22,7 +22,7 @@ pub fn stored(s: Reading) -> StoredQuery
     let before = j.joins;
     let latest = j.latest;
     let joins = join_lines::closed_joins(before, j.count, latest);
-    let conditions = j.conditions;
+    let conditions = s.conditions;
     let pairs = p.pairs;
     StoredQuery {
         table_count: t.count,

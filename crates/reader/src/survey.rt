@@ -1,4 +1,4 @@
-// One pass over the lines of a text: question 2, and what questions 3 to 9 are asked about.
+// One pass over the lines of a text: question 2, what questions 3 to 9 are asked about, and the cells.
 use crate::join_lines;
 use crate::join_lines::Joins;
 use crate::pairs;
@@ -7,179 +7,200 @@ use crate::place;
 use crate::place::Next;
 use crate::place::Place;
 use crate::row_lines;
+use crate::row_lines::RowsRead;
 use crate::tables;
 use crate::tables::Tables;
+use cells::condition::Condition;
 use cells::limits::BYTES;
+use cells::limits::CONDITIONS;
+use load::cell_run;
 use text::line;
 use text::line::LineRead;
 use text::part;
 ghost use mathlib.Core.Path.{_≡_};
-ghost use Prim.Native.Nat.{_≤_};
-ghost use lib.ListN.{length};
+ghost use mathlib.Core.Bool.{true, false};
+ghost use Prim.Native.Nat.{_+_, _<_, _≤_};
+ghost use lib.ListN.{length, drop};
 ghost use Rattle.cells.specs.Limits.{mostBytes};
-ghost use Rattle.reader.specs.Survey.{start, withTables, withJoins, withPairs, told, stepIn, afterRead, Bounded, surveyOf};
-ghost use Rattle.reader.specs.RowLines.{ReadsTo};
+ghost use Rattle.text.specs.Bytes.{lineFeed};
+ghost use Rattle.text.specs.Parts.{until};
+ghost use Rattle.load.specs.Run.{LaidTo};
+ghost use Rattle.reader.specs.Survey.{readingOf, tablesTold, joinsTold, pairsTold};
+ghost use Rattle.reader.specs.RowLines.{RowsTo, Surveyed};
 
 // The place of the latest line, and what the lines of each part said so far.
 pub struct Reading {
     pub place: Place,
     pub tables: Tables,
     pub joins: Joins,
+    pub conditions: [Condition; CONDITIONS],
     pub pairs: Pairs,
 }
 
-// The reading with a line more, or refused: then the reading says nothing.
+// The reading of a text, or refused: then the reading says nothing.
 pub struct Stepped {
     pub accepted: bool,
     pub reading: Reading,
 }
 
-// A place in the text, and the reading of the lines before it.
-pub struct ReadTo {
-    pub at: usize,
-    pub reading: Reading,
-}
-
-// No line yet.
-pub fn start() -> Reading
-    ensures { λ r. ⌜ r ≡ start ⌝ }
+// A text that question 2 turns down.
+fn refused() -> Stepped
+    ensures { λ r. ⌜ r .accepted ≡ false ⌝ }
 {
-    let t = tables::no_tables();
-    let j = join_lines::no_joins();
-    let p = pairs::no_pairs();
-    Reading {
-        place: Place { part: 0 },
-        tables: t,
-        joins: j,
-        pairs: p,
+    let tables = tables::no_tables();
+    let joins = join_lines::no_joins();
+    let conditions = join_lines::no_conditions();
+    let pairs = pairs::no_pairs();
+    Stepped {
+        accepted: false,
+        reading: Reading {
+            place: Place { part: 0 },
+            tables,
+            joins,
+            conditions,
+            pairs,
+        },
     }
 }
 
-// The reading with other tables, joins or pairs.
-fn with_tables(s: Reading, t: Tables) -> Reading
-    ensures { λ r. ⌜ r ≡ withTables s t ⌝ }
+// A text that question 2 does not turn down, and what its lines say.
+fn passed(
+    place: Place,
+    tables: Tables,
+    joins: Joins,
+    conditions: [Condition; CONDITIONS],
+    pairs: Pairs,
+) -> Stepped
+    ensures { λ r. ⌜ r ≡ record { accepted = true; reading = readingOf place tables joins conditions pairs } ⌝ }
 {
-    let mut next = s;
-    next.tables = t;
-    next
-}
-
-fn with_joins(s: Reading, j: Joins) -> Reading
-    ensures { λ r. ⌜ r ≡ withJoins s j ⌝ }
-{
-    let mut next = s;
-    next.joins = j;
-    next
-}
-
-fn with_pairs(s: Reading, p: Pairs) -> Reading
-    ensures { λ r. ⌜ r ≡ withPairs s p ⌝ }
-{
-    let mut next = s;
-    next.pairs = p;
-    next
-}
-
-// The reading with what a line says.
-fn with_line(s: Reading, x: LineRead) -> Reading
-    requires { ⌜ Bounded mostBytes s ⌝ }
-    ensures { λ r. ⌜ r ≡ told s x ⌝ }
-{
-    match x {
-        LineRead::Table(n) => {
-            let t = tables::after_table(s.tables, n);
-            with_tables(s, t)
-        }
-        LineRead::Row(n) => {
-            let t = tables::after_row(s.tables, n);
-            with_tables(s, t)
-        }
-        LineRead::Join(k, l, r) => {
-            let j = join_lines::after_join(s.joins, k, l, r);
-            with_joins(s, j)
-        }
-        LineRead::Condition(c) => {
-            let j = join_lines::after_condition(s.joins, c);
-            with_joins(s, j)
-        }
-        LineRead::Order(l, r) => {
-            let p = pairs::after_pair(s.pairs, l, r);
-            with_pairs(s, p)
-        }
-        LineRead::NoForm => s,
-    }
-}
-
-// A line more.
-fn after_line(s: Reading, x: LineRead) -> Stepped
-    requires { ⌜ Bounded mostBytes s ⌝ }
-    ensures { λ r. ⌜ stepIn r ≡ afterRead s x ⌝ }
-{
-    let n = place::next_place(s.place, x);
-    let Next::At(p) = n else {
-        return Stepped {
-            accepted: false,
-            reading: s,
-        };
-    };
-    let mut next = with_line(s, x);
-    next.place = p;
     Stepped {
         accepted: true,
-        reading: next,
+        reading: Reading {
+            place,
+            tables,
+            joins,
+            conditions,
+            pairs,
+        },
     }
 }
 
-// A run of D lines more, where there is one at place `at` of the tables part.
-fn with_rows(text: &[u8], at: usize, s: Reading) -> ReadTo
-    requires { ⌜ (at ≤ length (now text)) × (length (now text) ≤ mostBytes) × Bounded at s ⌝ }
-    ensures { λ r. ⌜ ReadsTo (now (text .entry)) at s (r .at) (r .reading) ⌝ }
+// The tables with what a line says.
+fn with_table(t: Tables, x: LineRead) -> Tables
+    requires { ⌜ (t .count < 65535) × (t .rows < 65535) ⌝ }
+    ensures { λ r. ⌜ r ≡ tablesTold t x ⌝ }
 {
-    if s.place.part != place::TABLES {
-        return ReadTo { at: at, reading: s };
-    }
-    let before = s.tables;
-    let rows = row_lines::read_rows(text, at, before);
-    let t = rows.tables;
-    let next = with_tables(s, t);
-    ReadTo {
-        at: rows.at,
-        reading: next,
+    match x {
+        LineRead::Table(n) => tables::after_table(t, n),
+        LineRead::Row(n) => tables::after_row(t, n),
+        LineRead::Join(k, l, r) => t,
+        LineRead::Condition(c) => t,
+        LineRead::Order(l, r) => t,
+        LineRead::NoForm => t,
     }
 }
 
-// The whole text, or refused by question 2.
-pub fn survey(text: &[u8]) -> Stepped
-    ensures { λ r. ⌜ stepIn r ≡ surveyOf (now (text .entry)) ⌝ }
+// The joins with what a line says.
+fn with_join(j: Joins, x: LineRead) -> Joins
+    requires { ⌜ (j .count < 65535) × (j .«condition_count» < 65535) × (j .latest .count < 65535) ⌝ }
+    ensures { λ r. ⌜ r ≡ joinsTold j x ⌝ }
 {
-    let mut s = start();
-    if BYTES < text.len() {
-        return Stepped {
-            accepted: false,
-            reading: s,
+    match x {
+        LineRead::Table(n) => j,
+        LineRead::Row(n) => j,
+        LineRead::Join(k, l, r) => join_lines::after_join(j, k, l, r),
+        LineRead::Condition(c) => join_lines::after_condition(j),
+        LineRead::Order(l, r) => j,
+        LineRead::NoForm => j,
+    }
+}
+
+// The pairs with what a line says.
+fn with_pair(q: Pairs, x: LineRead) -> Pairs
+    requires { ⌜ q .count < 65535 ⌝ }
+    ensures { λ r. ⌜ r ≡ pairsTold q x ⌝ }
+{
+    match x {
+        LineRead::Table(n) => q,
+        LineRead::Row(n) => q,
+        LineRead::Join(k, l, r) => q,
+        LineRead::Condition(c) => q,
+        LineRead::Order(l, r) => pairs::after_pair(q, l, r),
+        LineRead::NoForm => q,
+    }
+}
+
+// Behind a line from `at` to `to` that has place `p`: its cells are put into the run, and the D lines after it are read.
+fn behind_line(
+    text: &[u8],
+    at: usize,
+    to: usize,
+    p: Place,
+    t: Tables,
+    cells: &mut [i32],
+    out: usize,
+) -> RowsRead
+    requires { ⌜ (to ≡ at + until lineFeed (drop at (now text))) × (at ≤ to) × (to < length (now text)) × (length (now text) ≤ mostBytes) × (t .rows ≤ to + 1)
+        × (out ≤ at) × LaidTo (now text) at (now cells) out ⌝ }
+    ensures { λ r. ⌜ RowsTo (now (text .entry)) (p .part) (to + 1) t (r .at) (r .tables) × (r .out ≤ r .at) × LaidTo (now (text .entry)) (r .at) (now (cells .exit)) (r .out) ⌝ }
+{
+    let next = cell_run::put_line(&text[at..to], cells, out);
+    if p.part != place::TABLES {
+        return RowsRead {
+            at: to + 1,
+            out: next,
+            tables: t,
         };
     }
+    row_lines::read_rows(text, to + 1, t, cells, next)
+}
+
+// The lines of a text, or refused by question 2. The parts of the reading are locals; the conditions, which are large to copy, are
+// written in place.
+fn read_lines(text: &[u8], cells: &mut [i32]) -> Stepped
+    requires { ⌜ length (now text) ≤ mostBytes ⌝ }
+    ensures { λ r. ⌜ Surveyed (now (text .entry)) (now (cells .exit)) r ⌝ }
+{
+    let mut place = Place { part: 0 };
+    let mut tables = tables::no_tables();
+    let mut joins = join_lines::no_joins();
+    let mut conditions = join_lines::no_conditions();
+    let mut pairs = pairs::no_pairs();
+    let mut out = 0;
     let mut at = 0;
     while at < text.len() {
         let to = part::part_end(text, at, part::LINE_FEED);
         if text.len() <= to {
-            return Stepped {
-                accepted: false,
-                reading: s,
-            };
+            return refused();
         }
         let x = line::read_line(&text[at..to]);
-        let next = after_line(s, x);
-        if next.accepted {
-            let read = with_rows(text, to + 1, next.reading);
-            s = read.reading;
-            at = read.at;
-        } else {
-            return next;
+        let n = place::next_place(place, x);
+        let Next::At(p) = n else {
+            return refused();
+        };
+        place = p;
+        let k = join_lines::slot(joins.condition_count, x);
+        let c = join_lines::condition_in(x);
+        if k < CONDITIONS {
+            conditions[k] = c;
         }
+        joins = with_join(joins, x);
+        pairs = with_pair(pairs, x);
+        let told = with_table(tables, x);
+        let read = behind_line(text, at, to, p, told, cells, out);
+        tables = read.tables;
+        out = read.out;
+        at = read.at;
     }
-    Stepped {
-        accepted: true,
-        reading: s,
+    passed(place, tables, joins, conditions, pairs)
+}
+
+// The whole text, or refused by question 2. The run begins with the text's cells where the text is not refused.
+pub fn survey(text: &[u8], cells: &mut [i32]) -> Stepped
+    ensures { λ r. ⌜ Surveyed (now (text .entry)) (now (cells .exit)) r ⌝ }
+{
+    if BYTES < text.len() {
+        return refused();
     }
+    read_lines(text, cells)
 }

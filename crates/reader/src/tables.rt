@@ -8,7 +8,7 @@ ghost use mathlib.Core.Path.{_≡_};
 ghost use Prim.Native.Nat.{_+_, _-_, _<_};
 ghost use mathlib.Core.Bool.{_&&_};
 ghost use lib.Dec.{eqb};
-ghost use Rattle.reader.specs.State.{noTables, tableFits, closedRows, openedTable, afterTable, cellsAfter, afterRow};
+ghost use Rattle.reader.specs.State.{noTables, tableFits, closedRows, openedTable, afterTable, cellsAfter, afterRow, withCounts};
 
 // The layout has the tables before the latest in full; the latest one's rows are put there when it ends. `fits` is question 3's
 // answer on the tables' columns and on the rows of those before the latest, `even` question 4's on the rows so far.
@@ -148,5 +148,16 @@ pub(crate) fn after_row(s: Tables, n: usize) -> Tables
     next.even = is_even(s.even, n, s.columns);
     next.cells = cells_after(s.cells, n);
     next.rows = s.rows + 1;
+    next
+}
+
+// The tables with other counts: of the latest one's rows, of all cells, and question 4's answer.
+pub(crate) fn with_counts(s: Tables, rows: u16, cells: usize, even: bool) -> Tables
+    ensures { λ r. ⌜ r ≡ withCounts s rows cells even ⌝ }
+{
+    let mut next = s;
+    next.rows = rows;
+    next.cells = cells;
+    next.even = even;
     next
 }

@@ -189,7 +189,7 @@ value-within m (suc n) v (b ∷ f) e h k =
     let i : b ≤ 57 = leb-true b 57 g in
     value-within (m * 10 + 9) n (next v b) f (both-right (leb 48 b && leb b 57) (all digit f) e) (omega arith) (omega arith)
 
-decimal-digits : (f : Bytes) → decimal f ≡ true → all digit f ≡ true
+pub decimal-digits : (f : Bytes) → decimal f ≡ true → all digit f ≡ true
 unfolding decimal all
 decimal-digits [] e = refl
 decimal-digits (b ∷ []) e = and-true (digit b) ∙ e

@@ -14,3 +14,6 @@ pub mod FieldAnswers
 pub mod Fields
 pub mod Forms
 pub mod Letters
+pub mod Scan
+pub mod ScanLaws
+pub mod ScanLines

@@ -31,7 +31,7 @@ unfolding ifMade
 made-none = refl
 
 -- the number within the limit is the number
-found : (limit : ℕ) (o : Option ℕ) (v : ℕ) → some v ≡ atMost limit o → o ≡ some v
+pub found : (limit : ℕ) (o : Option ℕ) (v : ℕ) → some v ≡ atMost limit o → o ≡ some v
 unfolding atMost
 found limit none v e = absurd (let z : _≡_ {A = ℕ} 0 1 = cc in omega arith)
 found limit (some w) v e = go (leb w limit) e
@@ -85,7 +85,7 @@ unfolding ranged
 ranged-is none = refl
 ranged-is (some z) = refl
 
-constant-is : (f : Bytes) → constant f ≡ ranged (number f)
+pub constant-is : (f : Bytes) → constant f ≡ ranged (number f)
 unfolding constant
 constant-is f = ranged-is (number f)
 

@@ -3,3 +3,4 @@ pub mod field;
 pub mod line;
 pub mod number;
 pub mod part;
+pub mod scan;

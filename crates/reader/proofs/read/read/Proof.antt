@@ -1,6 +1,5 @@
--- `reader::read::read` meets its contract: questions 2, 3 and 4 in their order, and then the cells. Assumes nothing.
-use mathlib.Core.Path.{_∙_}
-use Rattle.reader.specs.Outcome.{outcome-2, outcome-3, outcome-4, outcome-says, text-short, run-refused, run-accepted}
+-- `reader::read::read` meets its contract: questions 2, 3 and 4 in their order, of what the pass over the lines leaves. Assumes nothing.
+use Rattle.reader.specs.Outcome.{outcome-2, outcome-3, outcome-4, outcome-says, run-refused, run-accepted}
 use borrow.Author.Needs.{needs}
 use borrow.Author.Tests.{not-true, not-false}
 use Rattle.reader.proofs.read.read.Statement.{statement}
@@ -12,35 +11,57 @@ survey-requires c κs = search needs
 stored-requires : tie.Need-stored-requires
 stored-requires c κs = search needs
 
+same-length : tie.Need-same-length
+same-length c = search needs
+
 returns : tie.Need-returns
 returns c =
-    let e = outcome-2 _ (c .before .before .before .before .survey .result) (c .before .before .before .before .survey .ensures) (not-true _ (c .if1 .taken)) in
-    (e, run-refused _ _ _ e)
+    let v = c .before .before .before .before .before in
+    let e = outcome-2 _ (v .survey .result) (v .survey .ensures .0) (not-true _ (c .if1 .taken)) in
+    (e, run-refused _ _ _ _ e (search needs))
 
 tables-fit-requires : tie.Need-tables-fit-requires
 tables-fit-requires c κs = search needs
 
+same-length-2 : tie.Need-same-length-2
+same-length-2 c = search needs
+
 returns-2 : tie.Need-returns-2
 returns-2 c =
-    let e = outcome-3 _ (c .before .before .before .before .before .before .before .survey .result) (c .before .before .before .before .before .before .before .survey .ensures) (not-false _ (c .before .before .before .if1 .left)) (c .before .tables-fit .ensures) (not-true _ (c .if2 .taken)) in
-    (e, run-refused _ _ _ e)
+    let f = c .before in
+    let i = f .before .before in
+    let v = i .before .before .before .before .before in
+    let e = outcome-3 _ (v .survey .result) (v .survey .ensures .0) (not-false _ (i .if1 .left)) (f .tables-fit .ensures) (not-true _ (c .if2 .taken)) in
+    (e, run-refused _ _ _ _ e (search needs))
+
+same-length-3 : tie.Need-same-length-3
+same-length-3 c = search needs
 
 returns-3 : tie.Need-returns-3
 returns-3 c =
-    let e = outcome-4 _ (c .before .before .before .before .before .before .before .before .before .survey .result) (c .before .before .before .before .before .before .before .before .before .survey .ensures) (not-false _ (c .before .before .before .before .before .if1 .left)) (c .before .before .before .tables-fit .ensures) (not-false _ (c .before .before .if2 .left)) (not-true _ (c .if3 .taken)) in
-    (e, run-refused _ _ _ e)
+    let j = c .before .before in
+    let f = j .before in
+    let i = f .before .before in
+    let v = i .before .before .before .before .before in
+    let e =
+    outcome-4 _ (v .survey .result) (v .survey .ensures .0) (not-false _ (i .if1 .left)) (f .tables-fit .ensures) (not-false _ (j .if2 .left))
+    (not-true _ (c .if3 .taken)) in
+    (e, run-refused _ _ _ _ e (search needs))
 
-put-cells-requires : tie.Need-put-cells-requires
-put-cells-requires c κs = text-short _ (c .before .before .before .before .before .before .before .before .before .before .survey .result) (c .before .before .before .before .before .before .before .before .before .before .survey .ensures) (not-false _ (c .before .before .before .before .before .before .if1 .left))
-
-same-length : tie.Need-same-length
-same-length c = search needs
+same-length-4 : tie.Need-same-length-4
+same-length-4 c = search needs
 
 returns-4 : tie.Need-returns-4
 returns-4 c =
-    let d = c .before .before .before in
-    let e = outcome-says _ (d .before .before .before .before .before .before .before .before .before .survey .result) (d .before .before .before .before .before .before .before .before .before .survey .ensures) (not-false _ (d .before .before .before .before .before .if1 .left)) (d .before .before .before .tables-fit .ensures) (not-false _ (d .before .before .if2 .left)) (not-false _ (d .if3 .left)) (d .before .before .before .before .before .before .before .stored .ensures) in
-    (e, c .before .put-cells .ensures ∙ run-accepted _ _ _ e)
+    let j = c .before .before in
+    let f = j .before in
+    let i = f .before .before in
+    let v = i .before .before .before .before .before in
+    let a = not-false _ (i .if1 .left) in
+    let e =
+    outcome-says _ (v .survey .result) (v .survey .ensures .0) a (f .tables-fit .ensures) (not-false _ (j .if2 .left)) (not-false _ (c .if3 .left))
+    (i .before .before .stored .ensures) in
+    (e, run-accepted _ _ _ (search needs) (v .survey .ensures .1 a))
 
 pub read-spec : {M : Type 1} → statement M
 read-spec =
@@ -48,10 +69,12 @@ read-spec =
     (tie.spec
     survey-requires
     stored-requires
+    same-length
     returns
     tables-fit-requires
+    same-length-2
     returns-2
+    same-length-3
     returns-3
-    put-cells-requires
-    same-length
+    same-length-4
     returns-4)

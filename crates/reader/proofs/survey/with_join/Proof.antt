@@ -1,0 +1,67 @@
+-- `reader::survey::with_join` meets its contract: a line of the joins part says it. Assumes nothing.
+use mathlib.Core.Path.{ap, sym, _∙_}
+use Rattle.reader.specs.Survey.{joinsTold}
+use borrow.Author.Needs.{needs}
+use Rattle.reader.proofs.survey.with_join.Statement.{statement}
+use Rattle.reader.proofs.survey.with_join.Tie as tie
+
+enum-known-x : tie.Need-enum-known-x
+enum-known-x c = search needs
+
+enum-known-x-2 : tie.Need-enum-known-x-2
+enum-known-x-2 c = search needs
+
+enum-known-x-3 : tie.Need-enum-known-x-3
+enum-known-x-3 c = search needs
+
+after-join-requires : tie.Need-after-join-requires
+after-join-requires c κs = search needs
+
+enum-known-x-4 : tie.Need-enum-known-x-4
+enum-known-x-4 c = search needs
+
+after-condition-requires : tie.Need-after-condition-requires
+after-condition-requires c κs = search needs
+
+enum-known-x-5 : tie.Need-enum-known-x-5
+enum-known-x-5 c = search needs
+
+enum-told : tie.Need-enum-told
+enum-told c = search needs
+
+returns : tie.Need-returns
+returns c = search needs
+
+returns-2 : tie.Need-returns-2
+returns-2 c = search needs
+
+returns-3 : tie.Need-returns-3
+returns-3 c = c .after-join .ensures ∙ ap (joinsTold _) (sym (c .before .before .x3 .given .1))
+
+returns-4 : tie.Need-returns-4
+returns-4 c = c .after-condition .ensures ∙ ap (joinsTold _) (sym (c .before .before .x4 .given .1))
+
+returns-5 : tie.Need-returns-5
+returns-5 c = search needs
+
+returns-6 : tie.Need-returns-6
+returns-6 c = search needs
+
+pub with-join-spec : {M : Type 1} → statement M
+with-join-spec =
+    tie.close
+    (tie.spec
+    enum-known-x
+    enum-known-x-2
+    enum-known-x-3
+    after-join-requires
+    enum-known-x-4
+    after-condition-requires
+    enum-known-x-5
+    enum-told
+    returns
+    returns-2
+    returns-3
+    returns-4
+    returns-5
+    returns-6)
