@@ -4,8 +4,8 @@ use mathlib.Core.List.{List, [], _∷_, _++_, flatMap}
 use Prim.Native.Nat.{ℕ, _+_, _*_, _≤_}
 use lib.ListN.{length, drop}
 use Rattle.cells.specs.Limits.{mostTables, mostSteps, printRoom}
-use Rattle.plan.specs.declared.facts.Facts.{Facts}
-use Rattle.plan.specs.declared.step.Step.{Step}
+use Rattle.vocabulary.specs.declared.facts.Facts.{Facts}
+use Rattle.vocabulary.specs.declared.step.Step.{Step}
 use Rattle.print.specs.declared.whole.Printed.{Printed}
 use Rattle.print.specs.declared.whole.Printed.the-variants.{Bytes as Wrote, NoRoom, Unfit}
 use Rattle.engine.specs.declared.answer.Answer.{Answer}
@@ -17,9 +17,9 @@ statusOf (Rows n) = 0
 statusOf (Refused n) = n
 
 -- the count of an answer's rows; a refusal has none
-unfoldable pub rowsOf : Answer → ℕ
-rowsOf (Rows n) = n
-rowsOf (Refused n) = 0
+unfoldable pub rowNumber : Answer → ℕ
+rowNumber (Rows n) = n
+rowNumber (Refused n) = 0
 
 -- how many numbers an answer of the report has: four counts, a set for each table, and five for each step
 abbrev pub answerRoom : ℕ
@@ -31,11 +31,11 @@ stepNumbers s = s .kind ∷ s .first ∷ s .second ∷ s .rows ∷ s .conditions
 
 -- an answer of the report: rows, tables, count of steps, status, the sets, the steps
 unfoldable pub answerNumbers : Answer → Facts → ℕ → List Step → List ℕ
-answerNumbers a f count steps = (rowsOf a ∷ f .tables ∷ count ∷ statusOf a ∷ []) ++ f .sets ++ flatMap stepNumbers steps
+answerNumbers a f count steps = (rowNumber a ∷ f .tables ∷ count ∷ statusOf a ∷ []) ++ f .sets ++ flatMap stepNumbers steps
 
 -- numbers at the front of a run; the rest of the run keeps its contents
 unfoldable pub atFront : List ℕ → List ℕ → List ℕ
-atFront numbers run = numbers ++ drop (length numbers) run
+atFront numbers buffer = numbers ++ drop (length numbers) buffer
 
 -- returned where nothing is printed
 abbrev pub noPrint : ℕ

@@ -1,7 +1,7 @@
 -- Cells: document 01, "Report text". A cell is a number, or blank. Assumes nothing.
-use mathlib.Core.Bool.{Bool, false, _&&_}
+use mathlib.Core.Bool.{_&&_, Bool, false}
 use lib.Dec.{eqb}
-use lib.IntN.{ℤ, pos, negsuc}
+use lib.IntN.{ℤ, negsuc, pos}
 use lib.Signed.{leZ}
 use Rattle.cells.specs.Choice.{if_then_else_}
 use Rattle.cells.specs.declared.cell.Made.{Made}

@@ -47,5 +47,5 @@ ownCell own rows columns row column =
 
 -- what a run of cells holds, where each table's own cells begin at its offset
 unfoldable pub cellsIn : List ℤ → Layout → Cells
-cellsIn run l t row column =
-    ownCell (drop (getD (l .offsets) t 0) run) (getD (l .rows) t 0) (getD (l .columns) t 0) row column
+cellsIn cells l t row column =
+    ownCell (drop (getD (l .offsets) t 0) cells) (getD (l .rows) t 0) (getD (l .columns) t 0) row column

@@ -1,6 +1,6 @@
 -- The limits of document 01, one definition for each; src/limits.rt has them for the code. Each is an abbreviation, so that arithmetic
 -- sees its number; one that follows from others is computed from them. Assumes nothing.
-use Prim.Native.Nat.{ℕ, _+_, _-_, _*_}
+use Prim.Native.Nat.{ℕ, _-_, _+_, _*_}
 
 -- ---- what a report may have
 

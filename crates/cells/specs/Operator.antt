@@ -7,18 +7,18 @@ use lib.ListN.{getD}
 use lib.Signed.{ltZ, leZ}
 use Rattle.cells.specs.Choice.{if_then_else_}
 use Rattle.cells.specs.Cell.{eqZ, isBlank}
-use Rattle.cells.specs.declared.operator.Outcome.{Outcome}
-use Rattle.cells.specs.declared.operator.Outcome.the-variants.{Less, Equal, Greater}
+use Rattle.cells.specs.declared.operator.Ordering.{Ordering}
+use Rattle.cells.specs.declared.operator.Ordering.the-variants.{Less, Equal, Greater}
 
 -- the outcomes less, equal, greater: the number of each is its column in the table of operators
-unfoldable pub columnOf : Outcome → ℕ
+unfoldable pub columnOf : Ordering → ℕ
 columnOf Less = 0
 columnOf Equal = 1
 columnOf Greater = 2
 
 -- how two numbers compare
-unfoldable pub outcomeOf : ℤ → ℤ → Outcome
-outcomeOf x y = if ltZ x y then Less else if ltZ y x then Greater else Equal
+unfoldable pub orderingOf : ℤ → ℤ → Ordering
+orderingOf x y = if ltZ x y then Less else if ltZ y x then Greater else Equal
 
 -- what is true of no numbers: a code that is no operator's
 unfoldable pub never : ℤ → ℤ → Bool

@@ -3,14 +3,15 @@ use mathlib.Core.List.{List, map}
 use mathlib.Core.Option.{Option, none, some}
 use Prim.Native.Nat.{ℕ}
 use Rattle.cells.specs.Row.{Row}
-use Rattle.plan.specs.Asking.{Question, firstNo, questionsOfReport, questionsOfDirect}
-use Rattle.plan.specs.Report.{Report, queryOf}
-use Rattle.plan.specs.Sets.{blankingSets}
-use Rattle.plan.specs.Steps.{bitsOf}
-use Rattle.plan.specs.declared.step.Step.{Step}
+use Rattle.vocabulary.specs.Asking.{Question, firstNo}
+use Rattle.vocabulary.specs.Report.{Report, queryOf}
+use Rattle.vocabulary.specs.Steps.{bitsOf}
+use Rattle.vocabulary.specs.declared.step.Step.{Step}
 use Rattle.text.specs.Bytes.{Bytes}
 use Rattle.text.specs.Reading.{readReport}
-use Rattle.run.specs.Runs.{directRows, question11Direct, reportRows, reportSteps, question11}
+use Rattle.plan.specs.Sets.{blankingSets}
+use Rattle.prepare.specs.Asking.{questionsOfReport, questionsOfDirect}
+use Rattle.executor.specs.Runs.{question11, question11Direct, reportRows, reportSteps, directRows}
 
 -- the number of the question that turned the text down, or an answer
 pub data Outcome (A : Type 0) : Type 0 where

@@ -1,19 +1,21 @@
 -- A call of the engine or of the direct reading, for any arguments: its answer, and all lent memory afterwards. Document 01,
 -- "Questions, in order". Assumes nothing.
-use mathlib.Core.Bool.{Bool, true, false, _&&_}
-use mathlib.Core.List.{List, [], _++_, flatMap}
+use mathlib.Core.Bool.{Bool, _&&_, true, false}
+use mathlib.Core.List.{List, _++_, flatMap, []}
 use Prim.Native.Nat.{ℕ, _-_}
+use mathlib.Core.Option.{none, some}
 use lib.Dec.{leb}
 use lib.IntN.{ℤ, pos}
 use lib.ListN.{length, drop, replicate}
-use Rattle.cells.specs.Limits.{mostTables, cellRoom, workRoom, resultRoom, stepListRoom}
+use Rattle.cells.specs.Limits.{cellRoom, workRoom, resultRoom, stepListRoom, mostTables}
 use Rattle.cells.specs.Row.{Row}
-use Rattle.plan.specs.Facts.{noFacts}
-use Rattle.plan.specs.Steps.{zeroStep}
-use Rattle.plan.specs.declared.facts.Facts.{Facts}
-use Rattle.plan.specs.declared.step.Step.{Step}
+use Rattle.vocabulary.specs.Facts.{noFacts}
+use Rattle.vocabulary.specs.Steps.{zeroStep}
+use Rattle.vocabulary.specs.declared.facts.Facts.{Facts}
+use Rattle.vocabulary.specs.declared.step.Step.{Step}
 use Rattle.text.specs.Bytes.{Bytes}
-use Rattle.engine.specs.Answers.{Outcome, refused, answered, ReportAnswer, reportOutcome, directOutcome}
+use Rattle.text.specs.Reading.{readReport}
+use Rattle.engine.specs.Answers.{ReportAnswer, Outcome, refused, answered, reportOutcome, directOutcome}
 use Rattle.engine.specs.declared.answer.Answer.{Answer}
 use Rattle.engine.specs.declared.answer.Answer.the-variants.{Rows, Refused}
 
@@ -105,3 +107,12 @@ directCall text m =
       | true ↦ directAfter (directOutcome text) m
       | false ↦ record { answer = Refused 1; lent = m }
     ]
+
+-- how many tables a text has
+unfoldable pub tableCountOf : Bytes → ℕ
+tableCountOf bs = elim (readReport bs) [ none ↦ 0 | some r ↦ length (r .tables) ]
+
+-- an answer's count of tables, which is how many numbers a row has; a refusal has none
+unfoldable pub widthOf : Bytes → Answer → ℕ
+widthOf bs (Rows k) = tableCountOf bs
+widthOf bs (Refused n) = 0

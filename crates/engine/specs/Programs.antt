@@ -1,5 +1,5 @@
 -- What the two programs print: document 01, "The whole print of one report". Assumes nothing.
-use mathlib.Core.List.{List, _++_, flatMap}
+use mathlib.Core.List.{_++_, flatMap, List}
 use Rattle.cells.specs.Row.{Row}
 use Rattle.text.specs.Bytes.{Bytes}
 use Rattle.text.specs.Print.{printSets, printStep, printRow, printRefusal}
@@ -10,15 +10,15 @@ unfoldable pub printReport : Outcome ReportAnswer → Bytes
 printReport (refused n) = printRefusal n
 printReport (answered a) = printSets 0 (a .sets) ++ flatMap printStep (a .steps) ++ flatMap printRow (a .rows)
 
--- "Program `direct` prints the R or E lines of the direct reading"
+-- "Program `directProgram` prints the R or E lines of the direct reading"
 unfoldable pub printDirect : Outcome (List Row) → Bytes
 printDirect (refused n) = printRefusal n
 printDirect (answered rows) = flatMap printRow rows
 
--- what program `report` prints for a text
-unfoldable pub report : Bytes → Bytes
-report text = printReport (reportOutcome text)
+-- what program `reportProgram` prints for a text
+unfoldable pub reportProgram : Bytes → Bytes
+reportProgram text = printReport (reportOutcome text)
 
--- what program `direct` prints for a text
-unfoldable pub direct : Bytes → Bytes
-direct text = printDirect (directOutcome text)
+-- what program `directProgram` prints for a text
+unfoldable pub directProgram : Bytes → Bytes
+directProgram text = printDirect (directOutcome text)

@@ -4,5 +4,4 @@ pub mod clear;
 pub mod direct;
 mod lent;
 pub mod planned;
-pub mod prepare;
 pub mod report;

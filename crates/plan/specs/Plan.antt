@@ -1,17 +1,19 @@
 -- The plan: document 01, "The plan". Assumes nothing.
-use mathlib.Core.Bool.{Bool, true, false, not, _&&_, _||_}
-use mathlib.Core.List.{List, [], _∷_, map}
+use mathlib.Core.Bool.{Bool, false, _&&_, _||_, true, not}
+use mathlib.Core.List.{List, [], _∷_, map, _++_, zipWith}
 use Prim.Native.Nat.{ℕ}
 use Rattle.cells.specs.declared.condition.Condition.{Condition}
 use Rattle.cells.specs.declared.condition.Side.{Side}
 use Rattle.cells.specs.declared.condition.Side.the-variants.{Column, Constant}
-use Rattle.rows.specs.Lists.{all, keep, has}
+use Rattle.rows.specs.Lists.{has, all, keep}
 use Rattle.rows.specs.Trees.{Tree}
 use Rattle.rows.specs.Nullification.{Blanking}
 use Rattle.rows.specs.declared.kind.Kind.the-variants.{Inner, Outer, Product}
-use Rattle.plan.specs.Report.{Join, Pair, Query, tableNumbers, conditionNumbers, conditionAt, joinOrder}
-use Rattle.plan.specs.Nodes.{tablesAt, nodesOf, treesOf, lastTree}
-use Rattle.plan.specs.Sets.{Sets, setOf, setsBy, emptySets, blankingSets}
+use Rattle.vocabulary.specs.declared.step.Step.{Step}
+use Rattle.vocabulary.specs.Report.{Query, conditionNumbers, conditionAt, Join, Pair, joinOrder, tableNumbers}
+use Rattle.vocabulary.specs.Nodes.{tablesAt, nodesOf, treesOf, lastTree}
+use Rattle.vocabulary.specs.Steps.{pairStep, blankingStep, bestMatchStep}
+use Rattle.plan.specs.Sets.{Sets, setOf, blankingSets, setsBy, emptySets}
 
 -- ---- pairs
 
@@ -114,3 +116,7 @@ module _ (g : Ground) where
   -- conditions", by table number
   unfoldable pub blankings : List (Blanking ℕ)
   blankings = keep asks (map (λ t. (t, missing t)) (tableNumbers (g .query)))
+
+-- the steps of a plan, given the rows of each pair's result: "the pairs as given, the blanking steps by table number, best match"
+unfoldable pub stepsOf : Ground → List ℕ → List Step
+stepsOf g counts = zipWith pairStep (plannedJoins g) counts ++ map blankingStep (blankings g) ++ bestMatchStep (blankings g)

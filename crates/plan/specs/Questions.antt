@@ -1,41 +1,21 @@
 -- Questions 5 to 10, put to the query: document 01, "Questions, in order". Assumes nothing.
-use mathlib.Core.Bool.{Bool, true, not, _&&_}
+use mathlib.Core.Bool.{Bool, true, _&&_, not}
 use mathlib.Core.List.{List, [], _∷_, _++_}
-use Prim.Native.Nat.{ℕ, suc}
-use lib.Dec.{eqb, leb, ltb}
-use lib.ListN.{length, getD}
+use Prim.Native.Nat.{ℕ}
+use lib.Dec.{ltb, eqb, leb}
+use lib.ListN.{getD, length}
 use Rattle.cells.specs.Limits.{mostWritten}
 use Rattle.cells.specs.declared.condition.Condition.{Condition}
 use Rattle.cells.specs.declared.condition.Side.{Side}
 use Rattle.cells.specs.declared.condition.Side.the-variants.{Column, Constant}
-use Rattle.rows.specs.Lists.{all, any, has}
+use Rattle.rows.specs.Lists.{has, all, any}
 use Rattle.rows.specs.Trees.{Tree, leaf, join, tablesUnder}
 use Rattle.rows.specs.declared.kind.Kind.the-variants.{Inner, Outer, Product}
-use Rattle.plan.specs.Report.{Join, Pair, Query, tableCount, conditionAt, namedBy, joinPairs}
-use Rattle.plan.specs.Nodes.{tablesAt, treeAt, joinNodes, joinTrees}
+use Rattle.vocabulary.specs.Report.{Query, tableCount, joinPairs, Pair, Join, conditionAt, namedBy}
+use Rattle.vocabulary.specs.Nodes.{wellBuilt, tablesAt, joinNodes, treeAt, joinTrees}
+use Rattle.vocabulary.specs.Asking.{Question}
 use Rattle.plan.specs.Sets.{blanksLeft, blanksRight}
-use Rattle.plan.specs.Plan.{Ground, groundOf, crosses, pairFits}
-
--- ---- 5 and 9: how nodes are joined
-
--- whether each side is a lower node than the pair's own, which is node i for the first pair
-unfoldable pub lowerSides : ℕ → List Pair → Bool
-lowerSides i [] = true
-lowerSides i (p ∷ ps) = ltb (p .0) i && ltb (p .1) i && lowerSides (suc i) ps
-
--- the sides of the pairs
-unfoldable pub sidesOf : List Pair → List ℕ
-sidesOf [] = []
-sidesOf (p ∷ ps) = p .0 ∷ p .1 ∷ sidesOf ps
-
--- whether no number stands in the list twice
-unfoldable pub noneTwice : List ℕ → Bool
-noneTwice [] = true
-noneTwice (k ∷ l) = not (has l k) && noneTwice l
-
--- "one .. fewer than tables, each side a lower node than its join, and no node a side twice"
-unfoldable pub wellBuilt : ℕ → List Pair → Bool
-wellBuilt n ps = eqb (suc (length ps)) n && lowerSides n ps && noneTwice (sidesOf ps)
+use Rattle.plan.specs.Plan.{crosses, Ground, pairFits, groundOf}
 
 -- 5: "Is there one J fewer than tables, each side a lower node than its join, and no node a side twice?"
 unfoldable pub question5 : Query → Bool
@@ -113,3 +93,16 @@ kindsFit g = all (pairFits g) (g .order)
 -- 10: "At each pair, do the usable conditions fit one of the four kinds?"
 unfoldable pub question10 : Query → Bool
 question10 q = kindsFit (groundOf q)
+
+-- what the query is asked
+unfoldable pub queryQuestions : List (Question Query)
+queryQuestions =
+    (5, λ (q : Query). question5 q)
+    ∷ (6, λ (q : Query). question6 q)
+    ∷ (7, λ (q : Query). question7 q)
+    ∷ (8, λ (q : Query). question8 q)
+    ∷ []
+
+-- what the order is asked: "The direct reading skips 9 and 10"
+unfoldable pub orderQuestions : List (Question Query)
+orderQuestions = (9, λ (q : Query). question9 q) ∷ (10, λ (q : Query). question10 q) ∷ []

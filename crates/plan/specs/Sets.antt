@@ -1,14 +1,14 @@
 -- Blanking sets: document 01, "Blanking sets". A set is a list of condition numbers, rising. Assumes nothing.
 use mathlib.Core.Bool.{Bool, true, false, _&&_, _||_}
-use mathlib.Core.List.{List, [], _∷_, map}
+use mathlib.Core.List.{List, [], map, _∷_}
 use Prim.Native.Nat.{ℕ}
 use lib.ListN.{getD}
 use Rattle.cells.specs.Choice.{if_then_else_}
 use Rattle.rows.specs.Lists.{any, keep, has}
 use Rattle.rows.specs.declared.kind.Kind.{Kind}
 use Rattle.rows.specs.declared.kind.Kind.the-variants.{Inner, Outer, Product}
-use Rattle.plan.specs.Report.{Join, Query, tableNumbers, conditionNumbers, namedBy}
-use Rattle.plan.specs.Nodes.{tablesAt, joinNodes}
+use Rattle.vocabulary.specs.Report.{Query, conditionNumbers, namedBy, Join, tableNumbers}
+use Rattle.vocabulary.specs.Nodes.{tablesAt, joinNodes}
 
 -- a set for each table
 abbrev pub Sets : Type 0

@@ -1,4 +1,5 @@
 // Reading a report text: questions 2, 3 and 4, the query, and the cells.
+pub mod cell_buffer;
 pub mod join_lines;
 pub mod pairs;
 pub mod place;

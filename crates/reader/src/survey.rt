@@ -1,21 +1,21 @@
 // One pass over the lines of a text: question 2, what questions 3 to 9 are asked about, and the cells.
-use crate::join_lines;
-use crate::join_lines::Joins;
-use crate::pairs;
-use crate::pairs::Pairs;
-use crate::place;
-use crate::place::Next;
-use crate::place::Place;
-use crate::row_lines;
-use crate::row_lines::RowsRead;
-use crate::tables;
-use crate::tables::Tables;
 use cells::condition::Condition;
 use cells::limits::BYTES;
 use cells::limits::CONDITIONS;
-use load::cell_run;
-use text::line;
+use crate::cell_buffer;
+use crate::join_lines::Joins;
+use crate::join_lines;
+use crate::pairs::Pairs;
+use crate::pairs;
+use crate::place::Next;
+use crate::place::Place;
+use crate::place;
+use crate::row_lines::RowsRead;
+use crate::row_lines;
+use crate::tables::Tables;
+use crate::tables;
 use text::line::LineRead;
+use text::line;
 use text::part;
 ghost use mathlib.Core.Path.{_≡_};
 ghost use mathlib.Core.Bool.{true, false};
@@ -23,10 +23,10 @@ ghost use Prim.Native.Nat.{_+_, _<_, _≤_};
 ghost use lib.ListN.{length, drop};
 ghost use Rattle.cells.specs.Limits.{mostBytes};
 ghost use Rattle.text.specs.Bytes.{lineFeed};
-ghost use Rattle.text.specs.Parts.{until};
-ghost use Rattle.load.specs.Run.{LaidTo};
-ghost use Rattle.reader.specs.Survey.{readingOf, tablesTold, joinsTold, pairsTold};
-ghost use Rattle.reader.specs.RowLines.{RowsTo, Surveyed};
+ghost use Rattle.text.specs.inner.Parts.{until};
+ghost use Rattle.reader.specs.inner.CellBuffer.{LaidTo};
+ghost use Rattle.reader.specs.inner.Survey.{readingOf, tablesTold, joinsTold, pairsTold};
+ghost use Rattle.reader.specs.inner.RowLines.{RowsTo, Surveyed};
 
 // The place of the latest line, and what the lines of each part said so far.
 pub struct Reading {
@@ -144,7 +144,7 @@ fn behind_line(
         × (out ≤ at) × LaidTo (now text) at (now cells) out ⌝ }
     ensures { λ r. ⌜ RowsTo (now (text .entry)) (p .part) (to + 1) t (r .at) (r .tables) × (r .out ≤ r .at) × LaidTo (now (text .entry)) (r .at) (now (cells .exit)) (r .out) ⌝ }
 {
-    let next = cell_run::put_line(&text[at..to], cells, out);
+    let next = cell_buffer::put_line(&text[at..to], cells, out);
     if p.part != place::TABLES {
         return RowsRead {
             at: to + 1,

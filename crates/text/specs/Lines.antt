@@ -10,8 +10,8 @@ use Rattle.cells.specs.declared.condition.Condition.{Condition}
 use Rattle.cells.specs.declared.condition.Side.the-variants.{Column, Constant}
 use Rattle.rows.specs.declared.kind.Kind.{Kind}
 use Rattle.rows.specs.declared.kind.Kind.the-variants.{Inner, Outer}
-use Rattle.text.specs.Bytes.{Bytes, bytes, tab, lineFeed, sameBytes, split, closed}
-use Rattle.text.specs.Numbers.{small, constant, cell}
+use Rattle.text.specs.Bytes.{Bytes, bytes, sameBytes, tab, split, lineFeed, closed}
+use Rattle.text.specs.Numbers.{small, cell, constant}
 
 -- the kinds of a J line: "`I` (inner) or `L` (left outer, left side preserved)"
 pub data JoinKind : Type 0 where

@@ -1,13 +1,13 @@
 -- Numbers in a text: document 01, "Report text". Assumes nothing.
-use mathlib.Core.Bool.{Bool, false, not, _&&_}
+use mathlib.Core.Bool.{Bool, _&&_, false, not}
 use mathlib.Core.List.{[], _∷_, foldl}
 use mathlib.Core.Option.{Option, none, some}
-use Prim.Native.Nat.{ℕ, zero, suc, _+_, _*_, _-_}
-use lib.Dec.{eqb, leb}
+use Prim.Native.Nat.{ℕ, _+_, _*_, _-_, zero, suc}
+use lib.Dec.{leb, eqb}
 use lib.IntN.{ℤ, pos, negsuc}
 use lib.ListN.{length}
 use Rattle.cells.specs.Choice.{if_then_else_}
-use Rattle.cells.specs.Cell.{blankCell, cellOf}
+use Rattle.cells.specs.Cell.{cellOf, blankCell}
 use Rattle.cells.specs.declared.cell.Made.{Made}
 use Rattle.cells.specs.declared.cell.Made.the-variants.{Value, OutOfRange}
 use Rattle.rows.specs.Lists.{all}

@@ -1,16 +1,16 @@
 -- The lines of the print: document 01, "The whole print of one report". Assumes nothing.
 use mathlib.Core.Bool.{true, false}
-use mathlib.Core.List.{List, [], _∷_, _++_, map}
+use mathlib.Core.List.{[], _∷_, _++_, List, map}
 use Prim.Native.Nat.{ℕ, zero, suc, _+_, _/_, _%_}
-use lib.Dec.{eqb, leb}
+use lib.Dec.{leb, eqb}
 use lib.ListN.{getD}
 use Rattle.cells.specs.Choice.{if_then_else_}
 use Rattle.cells.specs.Limits.{mostConditions}
-use Rattle.cells.specs.Row.{Row, blankRow}
+use Rattle.cells.specs.Row.{blankRow, Row}
 use Rattle.rows.specs.Lists.{range, keep}
-use Rattle.plan.specs.Bits.{hasBit}
-use Rattle.plan.specs.declared.step.Step.{Step}
-use Rattle.text.specs.Bytes.{Bytes, bytes, tab, lineFeed}
+use Rattle.vocabulary.specs.Bits.{hasBit}
+use Rattle.vocabulary.specs.declared.step.Step.{Step}
+use Rattle.text.specs.Bytes.{Bytes, tab, lineFeed, bytes}
 
 -- ---- fields
 

@@ -3,15 +3,15 @@ use mathlib.Core.Bool.{Bool, true, false}
 use mathlib.Core.List.{List, [], _∷_}
 use mathlib.Core.Option.{Option, none, some}
 use Prim.Native.Nat.{ℕ, suc}
-use lib.Dec.{eqb, leb}
+use lib.Dec.{leb, eqb}
 use lib.IntN.{ℤ}
 use lib.ListN.{length}
 use Rattle.cells.specs.Choice.{if_then_else_}
 use Rattle.cells.specs.Limits.{mostBytes}
 use Rattle.cells.specs.declared.condition.Condition.{Condition}
-use Rattle.plan.specs.Report.{Table, Join, Pair, Report}
+use Rattle.vocabulary.specs.Report.{Table, Join, Pair, Report}
 use Rattle.text.specs.Bytes.{Bytes}
-use Rattle.text.specs.Lines.{TableLine, tableLine, rowLine, JoinLine, joinLine, conditionLine, OrderLine, orderLine, Line, tablesPart, joinsPart, orderPart, kindOf, linesOf}
+use Rattle.text.specs.Lines.{tableLine, rowLine, joinLine, conditionLine, orderLine, Line, tablesPart, joinsPart, orderPart, TableLine, JoinLine, kindOf, OrderLine, linesOf}
 use Rattle.text.specs.LineParts.{tableLines, joinLines, orderLines}
 
 -- ---- places: "All T and D lines come first, then each J with its C and K lines, then P lines"
@@ -81,12 +81,6 @@ conditionsOf (conditionLine c ∷ ls) = c ∷ conditionsOf ls
 unfoldable pub pairsOf : List OrderLine → List Pair
 pairsOf [] = []
 pairsOf (orderLine a b ∷ ls) = (a, b) ∷ pairsOf ls
-
--- ---- what the lines of a text say
-
--- D lines before any T line: there is none where every line stands in its place
-abbrev pub earlyRows : List Line → List (List ℤ)
-earlyRows ls = firstRows (tableLines ls)
 
 abbrev pub tablesIn : List Line → List Table
 tablesIn ls = tablesOf (tableLines ls)

@@ -1,20 +1,20 @@
 // Lines of a report text, each read by its kind; a line is the bytes before its line feed.
-use crate::field;
+use cells::cell::Made;
+use cells::condition::Condition;
+use cells::condition::Side;
 use crate::field::ConstantAt;
 use crate::field::KindAt;
 use crate::field::NumberAt;
 use crate::field::OperatorAt;
 use crate::field::PairAt;
+use crate::field;
 use crate::number;
 use crate::part;
-use cells::cell::Made;
-use cells::condition::Condition;
-use cells::condition::Side;
 use rows::kind::Kind;
 ghost use mathlib.Core.Path.{_≡_};
-ghost use Rattle.text.specs.Parts.{fieldsFrom};
+ghost use Rattle.text.specs.inner.Parts.{fieldsFrom};
 ghost use Rattle.text.specs.Lines.{tablesPart, joinsPart, orderPart, lineOf};
-ghost use Rattle.text.specs.Forms.{lineRead, formRead, tableForm, rowForm, joinForm, columnForm, constantForm, orderForm};
+ghost use Rattle.text.specs.inner.Forms.{lineRead, formRead, tableForm, rowForm, joinForm, columnForm, constantForm, orderForm};
 
 // What a line says: of a D line, how many cells it has.
 pub enum LineRead {

@@ -4,9 +4,9 @@ use cells::cell::Made;
 ghost use mathlib.Core.Path.{_≡_};
 ghost use Prim.Native.Nat.{_≤_};
 ghost use Rattle.text.specs.Numbers.{natural, small, positive, negative, ifMade, constant, cell};
-ghost use Rattle.text.specs.Digits.{atMost};
-ghost use Rattle.text.specs.Ranges.{ranged};
-ghost use Rattle.text.specs.Answers.{naturalIn, smallIn};
+ghost use Rattle.text.specs.inner.Digits.{atMost};
+ghost use Rattle.text.specs.inner.Ranges.{ranged};
+ghost use Rattle.text.specs.inner.Answers.{naturalIn, smallIn};
 
 // A number without a sign.
 pub enum Natural {

@@ -3,7 +3,7 @@ use cells::cell::Cell;
 ghost use mathlib.Core.Path.{_≡_};
 ghost use Prim.Native.Nat.{_<_, _≤_};
 ghost use lib.ListN.{length, getD};
-ghost use Rattle.text.specs.Scan.{mostMagnitude, DigitsStand, CellStands};
+ghost use Rattle.text.specs.inner.Scan.{mostMagnitude, DigitsStand, CellStands};
 
 // A cell, and the place behind its last byte.
 pub enum CellAt {

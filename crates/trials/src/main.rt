@@ -8,8 +8,8 @@ use cells::limits::RESULT_ROOM;
 use cells::limits::STEP_ROOM;
 use cells::limits::WORK_ROOM;
 use text::part;
-use trial::calls;
-use trial::listed::LIST;
+use trial_calls::calls;
+use trial_calls::listed::LIST;
 ghost use Prim.Native.Nat.{_≤_};
 
 // What ends a name, and what ends a text.

@@ -7,11 +7,12 @@ use lib.ListN.{length}
 use borrow.Author.Needs.{needs}
 use Rattle.cells.specs.Limits.{mostBytes, mostConditions}
 use Rattle.text.specs.Bytes.{lineFeed}
-use Rattle.text.specs.Parts.{linesFrom}
-use Rattle.load.specs.Run.{LaidTo, laid-start, laid-whole}
-use Rattle.reader.specs.Survey.{nextIn, readingOf, conditionsTold, afterRead, readFrom, surveyOf, Bounded}
-use Rattle.reader.specs.SurveyLaws.{step-refused, line-told, slot-taken, slot-past, conditions-room, told-room, either, read-nowhere, start-parts, survey-start, from-end, from-open, from-refused, from-step, bounded-start, bounded-next}
-use Rattle.reader.specs.RowLines.{reads-rows, survey-passed, survey-refused}
+use Rattle.text.specs.inner.Parts.{linesFrom}
+use Rattle.reader.specs.inner.CellBuffer.{LaidTo}
+use Rattle.reader.proofs.laws.CellBufferLaws.{laid-start, laid-whole}
+use Rattle.reader.specs.inner.Survey.{nextIn, readingOf, conditionsTold, afterRead, readFrom, surveyOf}
+use Rattle.reader.proofs.laws.SurveyLaws.{Bounded, step-refused, line-told, slot-taken, slot-past, conditions-room, told-room, either, read-nowhere, start-parts, survey-start, from-end, from-open, from-refused, from-step, bounded-start, bounded-next}
+use Rattle.reader.proofs.laws.RowLinesLaws.{reads-rows, survey-passed, survey-refused}
 use Rattle.reader.proofs.survey.read_lines.Statement.{statement}
 use Rattle.reader.proofs.survey.read_lines.Tie as tie
 

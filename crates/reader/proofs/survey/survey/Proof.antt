@@ -1,8 +1,8 @@
 -- `reader::survey::survey` meets its contract: a text that is too long is refused. Assumes nothing.
 use mathlib.Core.Path.{_∙_}
-use Rattle.reader.specs.SurveyLaws.{step-refused, survey-long}
-use Rattle.reader.specs.RowLines.{survey-refused}
 use borrow.Author.Needs.{needs}
+use Rattle.reader.proofs.laws.SurveyLaws.{step-refused, survey-long}
+use Rattle.reader.proofs.laws.RowLinesLaws.{survey-refused}
 use Rattle.reader.proofs.survey.survey.Statement.{statement}
 use Rattle.reader.proofs.survey.survey.Tie as tie
 

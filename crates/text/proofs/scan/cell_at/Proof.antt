@@ -1,7 +1,7 @@
 -- `text::scan::cell_at` meets its contract: by the first byte, 0, a minus sign, or a digit before digits. Assumes nothing.
-use Rattle.cells.proofs.Ints.{small-pos}
-use Rattle.text.specs.ScanLaws.{found-zero, found-digits}
 use borrow.Author.Needs.{needs}
+use Rattle.cells.proofs.Ints.{small-pos}
+use Rattle.text.proofs.laws.ScanLaws.{found-zero, found-digits}
 use Rattle.text.proofs.scan.cell_at.Statement.{statement}
 use Rattle.text.proofs.scan.cell_at.Tie as tie
 

@@ -2,10 +2,10 @@
 use mir.Syntax.{w32}
 use mir.ValLaws.{toZ-ofZ}
 use lib.IntN.{pos, _-ℤ_}
+use borrow.Author.Needs.{needs}
 use Rattle.cells.specs.Cell.{blankCell}
 use Rattle.cells.proofs.Ints.{small-pos, neg-fits, neg-is}
-use Rattle.text.specs.ScanLaws.{found-blank, found-minus}
-use borrow.Author.Needs.{needs}
+use Rattle.text.proofs.laws.ScanLaws.{found-blank, found-minus}
 use Rattle.text.proofs.scan.minus_at.Statement.{statement}
 use Rattle.text.proofs.scan.minus_at.Tie as tie
 

@@ -1,0 +1,18 @@
+-- The order of the questions: document 01, "Questions, in order". Assumes nothing.
+use mathlib.Core.Bool.{Bool}
+use mathlib.Core.List.{List, _++_, [], _∷_}
+use Rattle.vocabulary.specs.Report.{Report, queryOf}
+use Rattle.vocabulary.specs.Asking.{Question, about}
+use Rattle.text.specs.TableQuestions.{tableQuestions}
+use Rattle.plan.specs.Questions.{queryQuestions, orderQuestions}
+
+-- what both runs are asked before the last question
+unfoldable pub sharedQuestions : List (Question Report)
+sharedQuestions = tableQuestions ++ about queryOf queryQuestions
+
+-- what the engine is asked, and what the direct reading is asked; the last question is about the results that each makes on the way
+unfoldable pub questionsOfReport : (Report → Bool) → List (Question Report)
+questionsOfReport within = sharedQuestions ++ about queryOf orderQuestions ++ ((11, within) ∷ [])
+
+unfoldable pub questionsOfDirect : (Report → Bool) → List (Question Report)
+questionsOfDirect within = sharedQuestions ++ ((11, within) ∷ [])

@@ -1,0 +1,11 @@
+-- Serves the code's numbers with a sign; no demand cites it. Numbers in a cell's range by the tests that the code makes.
+-- Assumes nothing.
+use mathlib.Core.Option.{Option, none, some}
+use lib.IntN.{ℤ}
+use Rattle.cells.specs.Cell.{cellOf}
+use Rattle.text.specs.Numbers.{ifMade}
+
+-- a number that has a cell
+unfoldable pub ranged : Option ℤ → Option ℤ
+ranged none = none
+ranged (some z) = ifMade (cellOf z)
