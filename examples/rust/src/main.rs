@@ -2,6 +2,11 @@
 //!
 //!     rows [--print] FILE
 //!
+//! To build and run it, at the top of the repository:
+//!
+//!     rt staticlib capi
+//!     cargo run --release --manifest-path examples/rust/Cargo.toml -- samples/week.in
+//!
 //! A row is written as in the print: R and, for each table, a row number or - behind a tab.
 //!
 //! Exit status 0: an answer was printed. 1: the text was refused, and E with the number was printed. 2: the arguments
