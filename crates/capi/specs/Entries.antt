@@ -15,17 +15,17 @@ use Rattle.capi.specs.Numbers.{statusOf, atFront, answerNumbers, answerR
 
 -- ---- numbers
 
--- returned where the run for the answer is too short
+-- returned where the buffer for the answer is too short
 abbrev pub noRoom : ℕ
 noRoom = 255
 
--- what is returned, the run for the answer, and lent memory afterwards
+-- what is returned, the buffer for the answer, and lent memory afterwards
 pub record Entry : Type 0 where
   pub status : ℕ
   pub answer : List ℕ
   pub lent : Lent
 
--- a call that has this answer, with these numbers, where the run has at least so many; otherwise nothing is changed
+-- a call that has this answer, with these numbers, where the buffer has room for at least so many; otherwise nothing is changed
 unfoldable pub entry : ℕ → Answer → List ℕ → Lent → Lent → List ℕ → Entry
 entry least a numbers after before buffer =
     if ltb (length buffer) least then record { status = noRoom; answer = buffer; lent = before }

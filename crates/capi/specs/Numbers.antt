@@ -33,7 +33,7 @@ stepNumbers s = s .kind ∷ s .first ∷ s .second ∷ s .rows ∷ s .conditions
 unfoldable pub answerNumbers : Answer → Facts → ℕ → List Step → List ℕ
 answerNumbers a f count steps = (rowNumber a ∷ f .tables ∷ count ∷ statusOf a ∷ []) ++ f .sets ++ flatMap stepNumbers steps
 
--- numbers at the front of a run; the rest of the run keeps its contents
+-- numbers at the front of a buffer; the rest of it keeps its contents
 unfoldable pub atFront : List ℕ → List ℕ → List ℕ
 atFront numbers buffer = numbers ++ drop (length numbers) buffer
 

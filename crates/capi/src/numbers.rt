@@ -1,4 +1,4 @@
-// An answer as a run of 64-bit numbers.
+// An answer as a list of 64-bit numbers.
 use cells::limits::STEPS;
 use cells::limits::TABLES;
 use engine::answer::Answer;

@@ -45,7 +45,7 @@ unfoldable pub ownCell : List ℤ → ℕ → ℕ → ℕ → ℕ → ℤ
 ownCell own rows columns row column =
     if ltb row rows && ltb column columns then getD own (row * columns + column) blankCell else blankCell
 
--- what a run of cells holds, where each table's own cells begin at its offset
+-- what a cell buffer holds, where each table's own cells begin at its offset
 unfoldable pub cellsIn : List ℤ → Layout → Cells
 cellsIn cells l t row column =
     ownCell (drop (getD (l .offsets) t 0) cells) (getD (l .rows) t 0) (getD (l .columns) t 0) row column

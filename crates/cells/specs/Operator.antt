@@ -1,4 +1,4 @@
--- Operators and outcomes: document 01, "Conditions". Assumes nothing.
+-- Operators, and how two numbers compare: document 01, "Conditions". Assumes nothing.
 use mathlib.Core.Bool.{Bool, false, not, _&&_}
 use mathlib.Core.List.{List, [], _∷_}
 use Prim.Native.Nat.{ℕ, _+_, _*_, _/_, _%_}
@@ -10,7 +10,7 @@ use Rattle.cells.specs.Cell.{eqZ, isBlank}
 use Rattle.cells.specs.declared.operator.Ordering.{Ordering}
 use Rattle.cells.specs.declared.operator.Ordering.the-variants.{Less, Equal, Greater}
 
--- the outcomes less, equal, greater: the number of each is its column in the table of operators
+-- the orderings less, equal, greater: the number of each is its column in the table of operators
 unfoldable pub columnOf : Ordering → ℕ
 columnOf Less = 0
 columnOf Equal = 1

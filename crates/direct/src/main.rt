@@ -1,4 +1,4 @@
-// Prints the direct reading of the text on standard input.
+// Program `direct`: prints the direct reading of the text on standard input.
 use cells::limits::BYTES;
 use cells::limits::CELL_ROOM;
 use cells::limits::PRINT_ROOM;

@@ -1,4 +1,5 @@
--- Every call is answered or refused, and not both; a refusal is the number of a question that the call is asked. Assumes nothing.
+-- The proof of demand 1: every call is answered or refused, and not both; a refusal is the number of a question that the call is asked.
+-- Assumes nothing.
 use mathlib.Core.Path.{_≡_, refl, sym, ap, _∙_}
 use mathlib.Core.Logic.{inl, inr}
 use mathlib.Core.Bool.{Bool, true, false}

@@ -1,5 +1,5 @@
--- Demand 2 over what is handed over: the rows of an answer, and the numbers that the two routines write, are the rows that SQL's joins define
--- for the tree of the text as written: each due row once, no other, in rising order. Assumes nothing.
+-- The proof of demand 2: the rows of an answer, and the numbers that the two routines write, are the rows that SQL's joins define for the
+-- tree of the text as written. Assumes nothing.
 use mathlib.Core.Path.{_≡_, subst, refl, sym, ap, _∙_}
 use mathlib.Core.Bool.{Bool, true, false}
 use mathlib.Core.List.{List, [], _∷_, _++_}

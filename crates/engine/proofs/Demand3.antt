@@ -1,5 +1,5 @@
--- The proof of demand 3 from the theorem on joining orders (crate rows), the laws of the query and the plan (crate plan) and those of
--- the report's conditions (crate run). Assumes nothing.
+-- The proof of demand 3 from the theorem on joining orders (crate rows), the laws of the query and the plan (crate plan) and those of the
+-- report's conditions (crate executor); and that the two routines agree. Assumes nothing.
 use mathlib.Core.Path.{_≡_, _∙_, refl, sym, ap, subst}
 use mathlib.Core.Logic.{_⊎_, inl, inr}
 use mathlib.Core.Bool.{Bool, true, false}

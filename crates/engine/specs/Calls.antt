@@ -19,7 +19,7 @@ use Rattle.engine.specs.Answers.{ReportAnswer, Outcome, refused, answere
 use Rattle.engine.specs.declared.answer.Answer.{Answer}
 use Rattle.engine.specs.declared.answer.Answer.the-variants.{Rows, Refused}
 
--- what is lent to a call: the cell run, the work buffer and the result buffer
+-- what is lent to a call: the cell buffer (document 01's "cell run"), the work buffer and the result buffer
 pub record Lent : Type 0 where
   pub cells : List ℤ
   pub work : List ℕ

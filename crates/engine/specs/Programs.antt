@@ -10,15 +10,15 @@ unfoldable pub printReport : Outcome ReportAnswer → Bytes
 printReport (refused n) = printRefusal n
 printReport (answered a) = printSets 0 (a .sets) ++ flatMap printStep (a .steps) ++ flatMap printRow (a .rows)
 
--- "Program `directProgram` prints the R or E lines of the direct reading"
+-- "Program `direct` prints the R or E lines of the direct reading"
 unfoldable pub printDirect : Outcome (List Row) → Bytes
 printDirect (refused n) = printRefusal n
 printDirect (answered rows) = flatMap printRow rows
 
--- what program `reportProgram` prints for a text
+-- what program `report` prints for a text
 unfoldable pub reportProgram : Bytes → Bytes
 reportProgram text = printReport (reportOutcome text)
 
--- what program `directProgram` prints for a text
+-- what program `direct` prints for a text
 unfoldable pub directProgram : Bytes → Bytes
 directProgram text = printDirect (directOutcome text)

@@ -29,7 +29,7 @@ prints (trial program input expected) = program input
 abbrev pub expects : Trial → Bytes
 expects (trial program input expected) = expected
 
--- the starred trials, by `reportProgram` and by `directProgram`
+-- the starred trials, by program `report` and by program `direct`
 unfoldable pub trials : List Trial
 trials =
     -- the report above, both ways

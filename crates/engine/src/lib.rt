@@ -1,4 +1,4 @@
-// The two exported routines, the report and the direct reading, and their print.
+// The two exported routines, the report and the direct reading of a text, over lent memory.
 pub mod answer;
 pub mod clear;
 pub mod direct;

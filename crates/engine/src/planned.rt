@@ -1,4 +1,4 @@
-// What a run hands over: document 01, "The plan".
+// The state at the start of a run, and what the run hands over: document 01, "The plan".
 use cells::limits::AREAS;
 use crate::answer::Answer;
 use joins::join::Joined;
@@ -106,7 +106,7 @@ fn hand_over(work: &[u16], result: &mut [u16], p: Prepared, r: State) -> Conclud
     }
 }
 
-// The end of a call: what the run hands over; then the work buffer and the cell run are filled with 0.
+// The end of a call: what the run hands over; then the work buffer and the cell buffer are filled with 0.
 pub(crate) fn conclude(
     cells: &mut [i32],
     work: &mut [u16],

@@ -1,5 +1,4 @@
--- Every list of blanking steps that document 01 allows after the pairs: "The plan", second paragraph. The engine's own list is one.
--- Assumes nothing.
+-- Every list of blanking steps that document 01 allows after the pairs: "The plan", second paragraph. Assumes nothing.
 use mathlib.Core.Path.{_≡_}
 use mathlib.Core.Logic.{_≢_}
 use mathlib.Core.List.{List, []}

@@ -117,6 +117,6 @@ module _ (g : Ground) where
   unfoldable pub blankings : List (Blanking ℕ)
   blankings = keep asks (map (λ t. (t, missing t)) (tableNumbers (g .query)))
 
--- the steps of a plan, given the rows of each pair's result: "the pairs as given, the blanking steps by table number, best match"
+-- the plan's steps, given the rows of each pair's result: "the pairs as given, the blanking steps by table number, best match"
 unfoldable pub stepsOf : Ground → List ℕ → List Step
 stepsOf g counts = zipWith pairStep (plannedJoins g) counts ++ map blankingStep (blankings g) ++ bestMatchStep (blankings g)

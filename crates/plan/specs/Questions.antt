@@ -17,6 +17,8 @@ use Rattle.vocabulary.specs.Asking.{Question}
 use Rattle.plan.specs.Sets.{blanksLeft, blanksRight}
 use Rattle.plan.specs.Plan.{crosses, Ground, pairFits, groundOf}
 
+-- ---- 5 and 9: how the joins and the order are built
+
 -- 5: "Is there one J fewer than tables, each side a lower node than its join, and no node a side twice?"
 unfoldable pub question5 : Query → Bool
 question5 q = wellBuilt (tableCount q) (joinPairs q)
@@ -93,6 +95,8 @@ kindsFit g = all (pairFits g) (g .order)
 -- 10: "At each pair, do the usable conditions fit one of the four kinds?"
 unfoldable pub question10 : Query → Bool
 question10 q = kindsFit (groundOf q)
+
+-- ---- the questions in order
 
 -- what the query is asked
 unfoldable pub queryQuestions : List (Question Query)

@@ -1,4 +1,4 @@
--- The order of the questions: document 01, "Questions, in order". Assumes nothing.
+-- The questions that each run is asked, in their order: document 01, "Questions, in order". Assumes nothing.
 use mathlib.Core.Bool.{Bool}
 use mathlib.Core.List.{List, _++_, [], _∷_}
 use Rattle.vocabulary.specs.Report.{Report, queryOf}

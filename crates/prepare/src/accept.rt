@@ -41,7 +41,7 @@ fn ask(q: StoredQuery) -> AcceptOutcome
     AcceptOutcome::Accepted
 }
 
-// The run begins with the text's cells where the text passes questions 2 to 4.
+// Questions 2 to 8 of a text. The cell buffer begins with the text's cells where the text passes questions 2 to 4.
 pub fn accept(text: &[u8], cells: &mut [i32]) -> AcceptAnswer
     ensures { λ r. ⌜ Accepts (now (text .entry)) (now (cells .entry)) (now (cells .exit)) r ⌝ }
 {

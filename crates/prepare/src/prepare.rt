@@ -4,7 +4,7 @@ use crate::prepared::Prepared;
 use crate::prepared;
 ghost use Rattle.prepare.specs.inner.Prepare.{Prepares};
 
-// Questions 2 to 10 of a text. The cell run begins with the text's cells where it passes questions 2 to 4.
+// Questions 2 to 10 of a text. The cell buffer begins with the text's cells where it passes questions 2 to 4.
 pub fn prepare(text: &[u8], cells: &mut [i32]) -> Prepared
     ensures { λ r. ⌜ Prepares (now (text .entry)) (now (cells .entry)) (now (cells .exit)) r ⌝ }
 {

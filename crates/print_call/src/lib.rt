@@ -1,3 +1,3 @@
-// What the two programs write: the print of a whole call, into a lent output buffer.
+// A call of an exported routine and its whole print, into a lent output buffer: what the two programs write.
 pub mod direct;
 pub mod report;

@@ -1,4 +1,4 @@
-// Question 10: document 01, "Questions, in order".
+// Question 10: whether the usable conditions of every pair fit a kind of join.
 use cells::limits::TABLES;
 use plan::order;
 use plan::pairs;

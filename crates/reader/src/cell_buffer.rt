@@ -1,4 +1,4 @@
-// The cells of the D lines, one after the other, in a lent run of cells; what has no place in the run is not kept.
+// The cells of the D lines, one after the other, in the lent cell buffer; what has no place there is not kept.
 use cells::cell::Made;
 use text::number;
 use text::part;
@@ -11,7 +11,7 @@ ghost use Rattle.reader.specs.inner.LineCells.{goodCells, lineCells, cel
 // The letter of a D line.
 const ROW: u8 = 68;
 
-// One cell at a place of the run.
+// One cell at a place of the cell buffer.
 pub fn put(cells: &mut [i32], i: usize, z: i32)
     ensures { λ _. ⌜ now (cells .exit) ≡ set (now (cells .entry)) i z ⌝ }
 {
@@ -21,7 +21,7 @@ pub fn put(cells: &mut [i32], i: usize, z: i32)
     cells[i] = z;
 }
 
-// The cells of a line's fields from `at` on, from place `out` of the run on; the place behind them.
+// The cells of a line's fields from `at` on, from place `out` of the cell buffer on; the place behind them.
 fn put_row(l: &[u8], at: usize, cells: &mut [i32], out: usize) -> usize
     requires { ⌜ (at ≤ length (now l) + 1) × (out + length (now l) ≤ 4294967296) ⌝ }
     ensures { λ r. ⌜ (now (cells .exit) ≡ cellsLaid (now (cells .entry)) out (goodCells (fieldsFrom (now (l .entry)) at))) × (r ≡ behind out (goodCells (fieldsFrom (now (l .entry)) at)))

@@ -1,4 +1,4 @@
-// A report text read: questions 2, 3 and 4, the query, and the cells in the lent run. The other questions are put to the query.
+// A report text read: questions 2, 3 and 4, the query, and the cells in the lent cell buffer. The other questions are put to the query.
 use crate::stored;
 use crate::survey;
 use vocabulary::query::StoredQuery;
@@ -17,7 +17,7 @@ pub struct ReadAnswer {
     pub query: StoredQuery,
 }
 
-// The run begins with the cells, each table's where the previous table's end, where the text is accepted.
+// The cell buffer begins with the cells, each table's where the previous table's end, where the text is accepted.
 pub fn read(text: &[u8], cells: &mut [i32]) -> ReadAnswer
     ensures { λ r. ⌜ (answerIn r ≡ readOutcome (now (text .entry))) × CellsAfter (now (text .entry)) (now (cells .entry)) (now (cells .exit)) ⌝ }
 {

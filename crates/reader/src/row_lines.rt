@@ -17,14 +17,14 @@ ghost use Rattle.reader.specs.inner.RowLines.{RowsTo};
 // The letter of a D line.
 const ROW: u8 = 68;
 
-// Of a D line: the place of its line feed, and the place behind its cells in the run.
+// Of a D line: the place of its line feed, and the place behind its cells in the cell buffer.
 pub enum RowAt {
     Value(usize, usize),
     Bad,
 }
 
-// The D line at place `at`, its cells put into the run from place `out` on. Cells of a line that turns out to be none may stand behind
-// that place; they do not count.
+// The D line at place `at`, its cells put into the cell buffer from place `out` on. Cells of a line that turns out to be none may stand
+// behind that place; they do not count.
 fn read_row(text: &[u8], at: usize, cells: &mut [i32], out: usize) -> RowAt
     requires { ⌜ (length (now text) ≤ mostBytes) × (at < length (now text)) × (getD (now text) at 0 ≡ 68) × (out ≤ at) ⌝ }
     ensures { λ r. ⌜ RowStands (now (text .entry)) at (now (cells .entry)) out (now (cells .exit)) r ⌝ }
@@ -59,14 +59,14 @@ fn read_row(text: &[u8], at: usize, cells: &mut [i32], out: usize) -> RowAt
     RowAt::Bad
 }
 
-// The place after a run of D lines, the place behind their cells in the run, and the tables with their rows.
+// The place after a run of D lines, the place behind their cells in the cell buffer, and the tables with their rows.
 pub struct RowsRead {
     pub at: usize,
     pub out: usize,
     pub tables: Tables,
 }
 
-// The D lines from place `from` on, up to the first line that has another form or is not closed; their cells are put into the run.
+// The D lines from place `from` on, up to the first line that has another form or is not closed; their cells are put into the cell buffer.
 pub(crate) fn read_rows(
     text: &[u8],
     from: usize,

@@ -1,4 +1,4 @@
-// The query that the lines of a text say, and questions 3 and 4.
+// The query that the lines of a text say, and question 3; `read` asks question 4.
 use cells::limits::CELLS;
 use cells::limits::ROWS;
 use cells::limits::TABLES;

@@ -130,7 +130,7 @@ fn with_pair(q: Pairs, x: LineRead) -> Pairs
     }
 }
 
-// Behind a line from `at` to `to` that has place `p`: its cells are put into the run, and the D lines after it are read.
+// Behind a line from `at` to `to` that has place `p`: its cells are put into the cell buffer, and the D lines after it are read.
 fn behind_line(
     text: &[u8],
     at: usize,
@@ -195,7 +195,7 @@ fn read_lines(text: &[u8], cells: &mut [i32]) -> Stepped
     passed(place, tables, joins, conditions, pairs)
 }
 
-// The whole text, or refused by question 2. The run begins with the text's cells where the text is not refused.
+// The whole text, or refused by question 2. The cell buffer begins with the text's cells where the text is not refused.
 pub fn survey(text: &[u8], cells: &mut [i32]) -> Stepped
     ensures { λ r. ⌜ Surveyed (now (text .entry)) (now (cells .exit)) r ⌝ }
 {

@@ -33,8 +33,6 @@ question3 r =
 unfoldable pub question4 : Report → Bool
 question4 r = all (λ (t : Table). all (λ (zs : List ℤ). eqb (length zs) (t .columns)) (t .rows)) (r .tables)
 
--- ---- the questions behind the second, which is whether there is a report
-
--- what the tables are asked
+-- what the tables are asked, behind question 2, which is whether there is a report
 unfoldable pub tableQuestions : List (Question Report)
 tableQuestions = (3, λ (r : Report). question3 r) ∷ (4, λ (r : Report). question4 r) ∷ []

@@ -65,7 +65,7 @@ fn cells_are(cells: &[i32], cleared: bool) -> bool {
     true
 }
 
-// Whether the cell run and the work buffer are cleared or as they were, and the result buffer is as it was from a place on.
+// Whether the cell buffer and the work buffer are cleared or as they were, and the result buffer is as it was from a place on.
 fn lent_is(cleared: bool, written: usize, cells: &[i32], work: &[u16], result: &[u16]) -> bool {
     if !cells_are(cells, cleared) {
         return false;
@@ -87,7 +87,7 @@ fn numbers_of(rows: usize, tables: usize) -> usize {
     rows * tables
 }
 
-// Whether lent memory is as document 01 wants it behind a call with this answer: untouched after refusal 1; otherwise the cell run and
+// Whether lent memory is as document 01 wants it behind a call with this answer: untouched after refusal 1; otherwise the cell buffer and
 // the work buffer are 0 to their ends, and the result buffer is as it was behind the rows.
 pub fn as_wanted(
     answer: Answer,

@@ -1,4 +1,4 @@
--- The order of the questions: document 01, "Questions, in order". Assumes nothing.
+-- Questions with their numbers, and the first that is answered no: document 01, "Questions, in order". Assumes nothing.
 use mathlib.Core.Bool.{Bool, true, false}
 use mathlib.Core.List.{List, [], _∷_}
 use mathlib.Core.Option.{Option, none, some}

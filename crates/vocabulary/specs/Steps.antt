@@ -1,4 +1,4 @@
--- The plan as a list of steps: document 01, "The plan". Assumes nothing.
+-- The steps of a plan, each by itself: document 01, "The plan". Assumes nothing.
 use mathlib.Core.List.{List, [], _∷_}
 use Prim.Native.Nat.{ℕ, _^_}
 use lib.Bits.{bitOr}

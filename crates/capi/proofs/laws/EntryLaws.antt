@@ -1,4 +1,4 @@
--- Laws of the calls of the static library, by the ways out of the code. They serve the code. Assumes nothing.
+-- Each call of the static library is the call that is defined, by the ways out of the code. Assumes nothing.
 use mathlib.Core.Path.{_≡_, sym, ap₂, _∙_, ap}
 use mathlib.Core.List.{List, [], _∷_}
 use Prim.Native.Nat.{ℕ, _≤_, _<_}
@@ -22,7 +22,7 @@ use Rattle.capi.specs.Entries.{noRoom, entry, reportNumbers, reportEntry
 -- ---- any call
 
 module _ (least : ℕ) (a : Answer) (numbers : List ℕ) (after before : Lent) (buffer : List ℕ) where
-  -- a run that is too short
+  -- a buffer that is too short
   pub no-room : length buffer < least → record { status = noRoom; answer = buffer; lent = before } ≡ entry least a numbers after before buffer
   unfolding entry
   no-room h = sym (rw (lt-ltb (length buffer) least h))

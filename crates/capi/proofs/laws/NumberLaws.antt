@@ -1,4 +1,4 @@
--- Laws of the numbers of an answer, as the code puts them. They serve the code. Assumes nothing.
+-- The numbers of an answer put one behind the other are the numbers that are defined. Assumes nothing.
 use mathlib.Core.Path.{_≡_, refl, ap, _∙_}
 use mathlib.Core.List.{List, [], _∷_, flatMap, _++_}
 use Prim.Native.Nat.{ℕ, _≤_}

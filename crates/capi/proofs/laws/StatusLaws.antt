@@ -1,4 +1,4 @@
--- What a status tells: 0 is an answer's, the number of a question that the call is asked is that of a refusal, and 255 says that the run
+-- What a status tells: 0 is an answer's, the number of a question that the call is asked is that of a refusal, and 255 says that the buffer
 -- for the answer is too short. Assumes nothing.
 use mathlib.Core.Path.{_≡_, ap, _∙_}
 use mathlib.Core.Logic.{_⊎_, inl, inr}

@@ -1,4 +1,4 @@
--- What a condition's truth in a row depends on, whatever the tables hold. Assumes nothing.
+-- What a condition's truth in a row depends on, whatever the tables hold: conditions are strict and local. Assumes nothing.
 use mathlib.Core.Path.{_≡_, refl, subst, ap₂}
 use mathlib.Core.Bool.{true, false}
 use mathlib.Core.List.{List·Memᴰ, List·Memᴰ·head, List·Memᴰ·tail, List·Memᴰ·cases-cons, List·Memᴰ·not-nil}

@@ -1,4 +1,4 @@
--- What holds of all operators, over their code. Assumes nothing.
+-- What holds of all operators, over their codes: what they allow, blank cells, complements and mirrors. Assumes nothing.
 use mathlib.Core.Path.{_≡_, refl, _∙_, ap, sym}
 use mathlib.Core.Logic.{_⊎_, ⊎-elim}
 use mathlib.Core.Bool.{Bool, true, false, not, _||_, or-comm, _&&_, and-false, and-comm}
@@ -55,7 +55,7 @@ less-asym (pos a) (negsuc b) e = sym e
 less-asym (negsuc a) (pos b) e = refl
 less-asym (negsuc a) (negsuc b) e = let h = ltb-true b a e in le-ltb a b (omega arith)
 
--- ---- what an operator says depends on the outcome alone
+-- ---- what an operator says depends on the ordering alone
 
 -- what each operator says of two numbers, by the tests "less", "equal", "less or equal", "greater", "greater or equal"
 verdicts : Bool → Bool → Bool → Bool → Bool → List Bool
@@ -76,7 +76,7 @@ says-less op x y = says-tests op x y ∙ rw (eq-by-less x y, le-by-less x y, le-
 pub says-alike : (op : ℕ) (x y a b : ℤ) → ltZ x y ≡ ltZ a b → ltZ y x ≡ ltZ b a → says op x y ≡ says op a b
 says-alike op x y a b p q = says-less op x y ∙ rw (p, q) (sym (says-less op a b))
 
--- two numbers compare as the column of their outcome compares with 1
+-- two numbers compare as the column of their ordering compares with 1
 column-less : (x y : ℤ) → (ltZ x y ≡ ltb (columnOf (orderingOf x y)) 1) × (ltZ y x ≡ ltb 1 (columnOf (orderingOf x y)))
 unfolding orderingOf columnOf
 column-less x y = by (ltZ x y) (ltZ y x) (less-asym x y)
@@ -89,13 +89,13 @@ column-less x y = by (ltZ x y) (ltZ y x) (less-asym x y)
     by false true h = (refl, refl)
     by false false h = (refl, refl)
 
--- an operator is true of two numbers if it allows their outcome
+-- an operator is true of two numbers if it allows their ordering
 pub says-allowed : (op : ℕ) (x y : ℤ) → says op x y ≡ allowed op (orderingOf x y)
 unfolding allowed
 says-allowed op x y =
     says-alike op x y (pos (columnOf (orderingOf x y))) (pos 1) (column-less x y .0) (column-less x y .1)
 
--- the column of an outcome is one of three
+-- the column of an ordering is one of three
 pub column-small : (o : Ordering) → columnOf o < 3
 unfolding columnOf
 column-small Less = lit< tt

@@ -53,7 +53,7 @@ module _ (buffer : List ℤ) (l : Layout) (t row column : ℕ) where
   unfolding cellsIn
   no-table h = own-no-row _ _ _ _ _ (rw (List·getD-eq-default (l .rows) 0 h) zero-le)
 
-  -- an offset past the run
+  -- an offset past the cells
   pub no-cells : length buffer < getD (l .offsets) t 0 → cellsIn buffer l t row column ≡ blankCell
   unfolding cellsIn
   no-cells h = own-past _ _ _ _ _ (rw length-drop (omega arith))

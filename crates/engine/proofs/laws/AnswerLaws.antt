@@ -1,5 +1,4 @@
--- Laws of answers: what it says of a report that no question of both runs turns it down; the outcome for a text, by the first no.
--- Assumes nothing.
+-- The outcome for a text, by the first question that is answered no; and that no question has the number 0. Assumes nothing.
 use mathlib.Core.Path.{_≡_, ap, _∙_, refl}
 use mathlib.Core.List.{List, _++_}
 use mathlib.Core.Option.{Option, none, some}
@@ -21,7 +20,7 @@ use Rattle.prepare.specs.Asking.{sharedQuestions}
 use Rattle.prepare.specs.inner.Accept.{refusal}
 use Rattle.engine.specs.Answers.{Outcome, refused, answered, outcomeFor, outcomeBy}
 
--- ---- outcomes
+-- ---- the outcome for a text
 
 module _ {A : Type 0} (qs : List (Question Report)) (answer : Report → A) (text : Bytes) where
   -- by the first no, of a text that question 2 does not turn down
@@ -66,7 +65,7 @@ answered-report {A} qs answer bs a e = go (readReport bs) refl e
     go none f h = clash cc
     go (some r) f h = yes r f (firstNo qs r) refl h
 
--- ---- numbers
+-- ---- the numbers of questions
 
 -- no question has the number 0
 pub no-positive : {A : Type 0} (qs : List (Question A)) (a : A) (n : ℕ) → T (all (ltb 0) (numbersOf qs)) → firstNo qs a ≡ some n → 0 < n

@@ -1,4 +1,4 @@
--- An answer has few rows, each with a number for every table. Assumes nothing.
+-- An answer has few rows, each with a number for every table, and its plan has at most sixteen steps. Assumes nothing.
 use mathlib.Core.Path.{_≡_, ap, _∙_, refl, sym, subst}
 use mathlib.Core.Bool.{Bool, true, false, not, _&&_}
 use mathlib.Core.List.{List, [], _∷_, zipWith, _++_, map}

@@ -1,4 +1,4 @@
--- The code of the direct reading meets its contracts, by the tests that it makes. Assumes nothing.
+-- The inner functions of the direct reading give the call that is defined, by the tests that the code makes. Assumes nothing.
 use mathlib.Core.Path.{_≡_, sym, ap, refl, _∙_, subst}
 use mathlib.Core.Bool.{Bool, true, false, _&&_, and-true}
 use mathlib.Core.List.{List}
@@ -89,9 +89,11 @@ module _ {bs : Bytes} {before after : List ℤ} {x : Accept.AcceptAnswer} (h : A
         direct-passed bs (kept .read) (kept .stands) (text-passed h e) w w′ a
         (subst (λ (cells : List ℤ). TreeRead (workspace cells (x .query .layout) (x .query .conditions)) (x .query) w w′ a) (kept .buffer room) t)
 
+-- ---- a call
+
 module _ (bs : Bytes) (c : List ℤ) (w r : List ℕ) where
   abbrev by : Bool → DirectCall
-  by b = elim b [ true ↦ directAfter (directOutcome bs) (lentParts c w r) | false ↦ record { answer = Refused 1; lentParts = lentParts c w r } ]
+  by b = elim b [ true ↦ directAfter (directOutcome bs) (lentParts c w r) | false ↦ record { answer = Refused 1; lent = lentParts c w r } ]
 
   call-by : (b : Bool) → question1Direct (lentParts c w r) ≡ b → by b ≡ directCall bs (lentParts c w r)
   unfolding directCall
@@ -105,7 +107,7 @@ module _ (bs : Bytes) (c : List ℤ) (w r : List ℕ) where
   unfolding enoughLent question1Direct
   first-asked = and-true _
 
-  pub direct-short : First false → record { answer = Refused 1; lentParts = lentParts c w r } ≡ directCall bs (lentParts c w r)
+  pub direct-short : First false → record { answer = Refused 1; lent = lentParts c w r } ≡ directCall bs (lentParts c w r)
   direct-short e = call-by false (sym first-asked ∙ e)
 
   pub direct-room : First true → (cellRoom ≤ length c) × (workRoom ≤ length w) × (resultRoom ≤ length r)
@@ -117,10 +119,10 @@ module _ (bs : Bytes) (c : List ℤ) (w r : List ℕ) where
 
   pub direct-done : First true → (c′ : List ℤ) (w′ r′ : List ℕ) (a : Answer)
       → Gave (directOutcome bs) r r′ a → (n k : ℕ) → w′ ≡ replicate n 0 → c′ ≡ replicate k (pos 0) → n ≡ length w → k ≡ length c
-      → record { answer = a; lentParts = lentParts c′ w′ r′ } ≡ directCall bs (lentParts c w r)
+      → record { answer = a; lent = lentParts c′ w′ r′ } ≡ directCall bs (lentParts c w r)
   unfolding directAfter cleared answerFor resultFor
   direct-done enough c′ w′ r′ a g n m e f x y = after (directOutcome bs) g ∙ call-by true (sym first-asked ∙ enough)
     where
-      after : (o : Outcome (List Row)) → Gave o r r′ a → record { answer = a; lentParts = lentParts c′ w′ r′ } ≡ directAfter o (lentParts c w r)
+      after : (o : Outcome (List Row)) → Gave o r r′ a → record { answer = a; lent = lentParts c′ w′ r′ } ≡ directAfter o (lentParts c w r)
       after (refused i) z = rw (z .answer, z .result, e, f, x, y)
       after (answered rows) z = rw (z .answer, z .result, e, f, x, y)

@@ -74,7 +74,7 @@ module _ (bs : Bytes) {s : StoredQuery} {cells : List ℤ} {r : Report} (read : 
   unfolding directOutcome
   outcome-rows e = outcome-answered directQuestions directRows bs r read (asked ∙ asked-yes _ _ r e ∙ none-left r)
 
-  -- work space, over the run that the text leaves
+  -- work space, over the cells that the text leaves
   abbrev W : Database ℕ
   W = workspace cells (s .layout) (s .conditions)
 

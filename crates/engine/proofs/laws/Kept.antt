@@ -1,5 +1,5 @@
--- A stored query that stands for a report which no question of both runs turns down: its counts, what the direct reading takes, and its
--- tree; the whole query where its order is admitted too. Assumes nothing.
+-- A stored query that stands for a report which no question of both runs turns down: what the direct reading takes, and its tree; the
+-- whole query where its order is admitted too. Assumes nothing.
 use mathlib.Core.Path.{_≡_, refl, sym, ap, ap₂, _∙_, subst}
 use mathlib.Core.Bool.{_&&_}
 use mathlib.Core.List.{List, map}

@@ -1,4 +1,4 @@
--- What the code's inner routines over a plan give. Serves the code only: no demand cites it. Assumes nothing.
+-- An outcome of the engine as it is handed over, and the plan with the counts of rows of its pairs. Assumes nothing.
 use mathlib.Core.Path.{_≡_, refl, sym, ap, _∙_}
 use mathlib.Core.List.{List}
 use Prim.Native.Nat.{ℕ, _-_, _+_, _≤_, zero, suc}
@@ -24,7 +24,7 @@ use Rattle.engine.specs.Answers.{Outcome, refused, answered, ReportAnswe
 use Rattle.engine.specs.Calls.{factsOf, written}
 use Rattle.engine.specs.declared.planned.Concluded.{Concluded}
 
--- the plan of a query run
+-- the run of a query's plan
 pub record StepsRun (D : Database ℕ) (q : StoredQuery) (w w′ : List ℕ) (r : Concluded) : Type 0 where
   pub counts : List ℕ
   pub joined : Joined

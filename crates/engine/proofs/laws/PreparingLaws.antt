@@ -1,4 +1,4 @@
--- Laws of what is made ready before a run and handed over after it, by the tests that the code makes. Assumes nothing.
+-- Question 1 and what is handed over, by the tests that the code makes; and the run of a query that was made ready. Assumes nothing.
 use mathlib.Core.Path.{_≡_, refl, sym, ap, _∙_}
 use mathlib.Core.Logic.{by-cases}
 use mathlib.Core.Bool.{true, not}

@@ -1,4 +1,4 @@
--- The code of the report meets its contracts, by the tests that it makes. Assumes nothing.
+-- The inner functions of the report give the call that is defined, by the tests that the code makes. Assumes nothing.
 use mathlib.Core.Path.{_≡_, refl, ap, sym, _∙_, subst}
 use mathlib.Core.Bool.{Bool, true, false, _&&_}
 use mathlib.Core.List.{List, []}
@@ -106,9 +106,11 @@ module _ (bs : Bytes) (before after : List ℤ) (p : Prepared) (room : cellRoom 
           (nine-kept (k .stands) (text-well x e) (text-passed x e) f) after n enough w w′ v v′ long wide r h
           (subst Ran y run) (subst (λ (u : Prepared). Ends u r w′ v v′ h) y end)))
 
--- the same of what is handed over by value
+-- ---- a call
+
+-- what is handed over by value, with lent memory afterwards, as a call
 abbrev pub asValue : Planned → Lent → ReportCall
-asValue x m = record { answer = x .answer; facts = x .facts; count = x .plan .count; lentParts = m; steps = x .plan .steps }
+asValue x m = record { answer = x .answer; facts = x .facts; count = x .plan .count; lent = m; steps = x .plan .steps }
 
 pub handed-by-value : {x : Planned} {r : Reply} {l : List Step} {k : ReportCall} (m : Lent) → x ≡ byValue r l → asCall r m l ≡ k → asValue x m ≡ k
 unfolding byValue
@@ -124,7 +126,7 @@ module _ (bs : Bytes) (c : List ℤ) (w v : List ℕ) (ys : List Step) where
   abbrev by : Bool → ReportCall
   by b = elim b [
     | true ↦ reportAfter (reportOutcome bs) (lentParts c w v) ys
-    | false ↦ record { answer = Refused 1; facts = noFacts; count = 0; lentParts = lentParts c w v; steps = ys }
+    | false ↦ record { answer = Refused 1; facts = noFacts; count = 0; lent = lentParts c w v; steps = ys }
   ]
 
   -- question 1

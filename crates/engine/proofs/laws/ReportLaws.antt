@@ -141,7 +141,7 @@ module _ (bs : Bytes) {s : StoredQuery} {cells : List ℤ} {r : Report} (read : 
     unfolding reportOutcome
     outcome-rows e = outcome-answered reportQuestions reportAnswer bs r read (asked-11 ∙ asked-yes _ _ r e ∙ none-left r)
 
-    -- work space, over the run that the text leaves
+    -- work space, over the cells that the text leaves
     abbrev W : Database ℕ
     W = workspace cells (s .layout) (s .conditions)
 

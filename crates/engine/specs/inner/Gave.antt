@@ -1,4 +1,5 @@
--- The code of the direct reading meets its contracts, by the tests that it makes. Assumes nothing.
+-- What the inner functions of the direct reading give: the answer and the result buffer for an outcome, question 11 of a tree with its
+-- rows, and the count of tables beside an answer. Assumes nothing.
 use mathlib.Core.Path.{_≡_}
 use mathlib.Core.List.{List}
 use Prim.Native.Nat.{ℕ, _+_, _-_}
@@ -17,8 +18,6 @@ use Rattle.engine.specs.Answers.{Outcome, refused, answered}
 use Rattle.engine.specs.Calls.{Lent, written}
 use Rattle.engine.specs.declared.answer.Answer.{Answer}
 use Rattle.engine.specs.declared.answer.Answer.the-variants.{Rows, Refused}
-
--- ---- a call
 
 -- lent memory, by its three parts
 abbrev pub lentParts : List ℤ → List ℕ → List ℕ → Lent
@@ -44,7 +43,7 @@ unfoldable pub elevenOf : Joined → Answer
 elevenOf (J.Rows k) = Rows k
 elevenOf J.TooMany = Refused 11
 
--- question 11 of the tree of a stored query, and its rows
+-- the tree of a stored query read: question 11, and its rows in the result buffer
 pub record TreeRead (D : Database ℕ) (q : StoredQuery) (w w′ : List ℕ) (a : Answer) : Type 0 where
   pub joined : Joined
   pub answer : a ≡ elevenOf joined

@@ -1,4 +1,5 @@
--- What the code's inner routines over a plan give. Serves the code only: no demand cites it. Assumes nothing.
+-- What the inner functions of the report hand over: a refusal, or an answer with its plan and the counts of rows of its pairs; and a call
+-- by its parts. Assumes nothing.
 use mathlib.Core.List.{[], List}
 use Prim.Native.Nat.{ℕ, zero, suc, _-_}
 use lib.ListN.{getD}
@@ -33,14 +34,12 @@ unfoldable pub withCounts : Plan → List ℕ → ℕ → Plan
 withCounts s counts zero = s
 withCounts s counts (suc k) = withRows (withCounts s counts k) k (getD counts k 0)
 
--- what is handed over after the run of a plan, s: its answer and the counts of its pairs
+-- what is handed over after the run of a plan, s: how many rows there are, the sets, and the plan with the counts of its pairs; or refusal 11
 unfoldable pub handedOver : StoredQuery → List ℕ → Plan → List ℕ → Joined → Concluded
 handedOver q sets s counts (J.Rows k) =
     answeredWith k (record { tables = q .«table_count»; sets = sets }) (withCounts s counts (q .«table_count» - 1))
 handedOver q sets s counts J.TooMany = turnedDown 11
 
--- ---- a call
-
 -- what is answered, and lent memory and the list of steps afterwards, as a call
 abbrev pub asCall : Reply → Lent → List Step → ReportCall
-asCall x m l = record { answer = x .answer; facts = x .facts; count = x .count; lentParts = m; steps = l }
+asCall x m l = record { answer = x .answer; facts = x .facts; count = x .count; lent = m; steps = l }

@@ -1,4 +1,5 @@
--- What the code makes ready before a run and hands over after it. Serves the code only: no demand cites it. Assumes nothing.
+-- Question 1 as the code asks it, of lengths; and the end of a call of the report: what is handed over for a text that was made ready, and
+-- lent memory cleared. Assumes nothing.
 use mathlib.Core.Path.{_≡_}
 use mathlib.Core.Bool.{Bool, _&&_}
 use mathlib.Core.List.{List}
@@ -19,27 +20,28 @@ use Rattle.engine.specs.declared.planned.Reply.{Reply}
 
 -- ---- question 1
 
--- by the lengths of the cell run, the work buffer, the result buffer and the step list
+-- whether enough is lent, by the lengths of the cell buffer, the work buffer, the result buffer and the step list
 unfoldable pub enoughLent : ℕ → ℕ → ℕ → ℕ → Bool
 enoughLent cells work result steps = (leb workRoom work && leb resultRoom result && leb cellRoom cells) && leb stepListRoom steps
 
--- ---- after a run
+-- ---- the end of a call
 
--- the count of tables, where there is a run
+-- there are 1 to 8 tables, where no question turned the text down
 abbrev pub TablesWithin : Prepared → Type 0
 TablesWithin p = p .number ≤ 0 → (1 ≤ p .query .«table_count») × (p .query .«table_count» ≤ mostTables)
 
--- what is handed over for what was made ready, p, and the state at the end, r; w is the work buffer, v and v′ the result before and after
+-- what is handed over for what was made ready, p, and the state r at the end of the run; w is the work buffer, v and v′ the result before
+-- and after
 pub record Ends (p : Prepared) (r : State) (w v v′ : List ℕ) (x : Concluded) : Type 0 where
   pub refused : 0 < p .number → (x ≡ turnedDown (p .number)) × (v′ ≡ v)
   pub rows : p .number ≡ 0 → (length (r .counts) ≡ areas)
       × ((a : Joined) × Ended (p .query) r w v v′ a × (x ≡ handedOver (p .query) (p .sets) (p .plan) (r .counts) a))
 
--- what is answered, with these steps, by value
+-- what is answered and these steps, as they are handed over by value
 unfoldable pub byValue : Reply → List Step → Planned
 byValue r steps = record { answer = r .answer; facts = r .facts; plan = record { steps = steps; count = r .count } }
 
--- the end of a call: c, w and v are the cell run, the work buffer and the result, before and after
+-- the end of a call: c, w and v are the cell buffer, the work buffer and the result, before and after; the first two end filled with 0
 pub record Concludes (p : Prepared) (r : State) (c c′ : List ℤ) (w w′ v v′ : List ℕ) (x : Concluded) : Type 0 where
   pub ends : Ends p r w v v′ x
   pub cells : c′ ≡ replicate (length c) (pos 0)

@@ -1,4 +1,4 @@
--- Every list of blanking steps that document 01 allows after the pairs: "The plan", second paragraph. The engine's own list is one.
+-- Laws of the lists of blanking steps that document 01 allows: a test that tells them, and that the engine's own list is one.
 -- Assumes nothing.
 use mathlib.Core.Path.{sym, _≡_, refl, subst}
 use mathlib.Core.Logic.{_≢_}

@@ -1,5 +1,4 @@
--- Shapes that serve the contracts of this crate's functions alone; no demand cites them. The pairs that are joined, as the code
--- holds them. Assumes nothing.
+-- The pairs that are joined, as the code holds them. Assumes nothing.
 use mathlib.Core.Path.{_≡_}
 use mathlib.Core.List.{List, map}
 use Prim.Native.Nat.{_≤_}

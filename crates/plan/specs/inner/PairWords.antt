@@ -1,5 +1,4 @@
--- Shapes that serve the contracts of this crate's functions alone; no demand cites them. A pair's usable conditions and how it is
--- joined, over words. Assumes nothing.
+-- A pair's usable conditions and how it is joined, over words. For the functions of src/pairs.rt. Assumes nothing.
 use mathlib.Core.Bool.{Bool, false, _&&_, _||_, true}
 use mathlib.Core.List.{List}
 use Prim.Native.Nat.{ℕ}

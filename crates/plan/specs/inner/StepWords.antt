@@ -1,5 +1,5 @@
--- Shapes that serve the contracts of this crate's functions alone; no demand cites them, but for the list of a plan's steps as
--- the code holds it. Assumes nothing.
+-- A plan's steps as the code lists them: the steps of the pairs, the blanking steps, best match, and the rows of a step's result.
+-- For the functions of src/steps.rt. Assumes nothing.
 use mathlib.Core.List.{List, _++_, map}
 use Prim.Native.Nat.{_-_, _%_, _+_, ℕ, zero, suc}
 use lib.Bits.{bitAnd, bitXor}

@@ -1,5 +1,4 @@
--- Shapes that serve the contracts of this crate's functions alone; no demand cites them. Sets of conditions and of tables as
--- words, and lists of them as the code's arrays. Assumes nothing.
+-- Joins, nodes, sets and the set rule of blanking sets, with sets of conditions and of tables as words. Assumes nothing.
 use mathlib.Core.List.{List, map, [], _∷_}
 use Prim.Native.Nat.{ℕ}
 use lib.Bits.{bitOr, bitAnd}

@@ -1,5 +1,5 @@
--- Laws of answers: what it says of a report that no question of both runs turns it down; the outcome for a text, by the first no.
--- Assumes nothing.
+-- What it says of a report that no question of both runs turns it down: its query is accepted, its tables have few rows, and the counts of
+-- what is kept of it are within the arrays' room. Assumes nothing.
 use mathlib.Core.Path.{_≡_, subst, refl, sym, _∙_, ap}
 use mathlib.Core.Logic.{by-cases}
 use mathlib.Core.List.{List, []}

@@ -1,5 +1,5 @@
 -- What the reader answers to a text: its refusals are those of questions 2 to 4, and what it keeps of a text that passes them stands for
--- the report that the text says. The one file that knows the reader's shapes. Assumes nothing.
+-- the report that the text says. Of this crate only this file knows the reader's shapes. Assumes nothing.
 use mathlib.Core.Path.{_≡_, refl, sym, ap, ap₂, _∙_, subst}
 use mathlib.Core.Bool.{true, _&&_}
 use mathlib.Core.List.{List, [], _∷_, _++_}
@@ -83,7 +83,7 @@ module _ (bs : Bytes) (ls : List Line) (read : textLines bs ≡ some ls) (yes : 
     cells-same = cells-whole ls early (within .1) (within .2) even more;
   }
 
-  -- ---- the run that the text leaves: its cells, and what is there behind them
+  -- ---- the cell buffer that the text leaves: its cells, and what is there behind them
 
   says-kept : says (storedOf (done ls)) ≡ readOutcome bs
   unfolding readOutcome outcomeOf linesOutcome

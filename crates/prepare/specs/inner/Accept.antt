@@ -1,4 +1,5 @@
--- Questions 2 to 8 on a text, and what is kept of it: document 01, "Questions, in order". Assumes nothing.
+-- Questions 2 to 8 on a text, as the code answers them, and what is kept of a text that passes them. For the functions of src/accept.rt.
+-- Assumes nothing.
 use mathlib.Core.Path.{_≡_}
 use mathlib.Core.List.{List}
 use mathlib.Core.Option.{Option, none, some}
@@ -32,7 +33,7 @@ numberIn Accepted = none
 abbrev pub Asked : StoredQuery → AcceptOutcome → Type 0
 Asked s o = (cells : List ℤ) (r : Report) → Stands s cells r → numberIn o ≡ firstNo queryQuestions (queryOf r)
 
--- what is kept of a text stands for the report that it says; where the run has room for the cells, it has them
+-- what is kept of a text stands for the report that it says; where the cell buffer has room for the cells, it has them
 pub record KeptText (bs : Bytes) (before after : List ℤ) (s : StoredQuery) : Type 0 where
   pub report : Report
   pub read : readReport bs ≡ some report
@@ -40,7 +41,7 @@ pub record KeptText (bs : Bytes) (before after : List ℤ) (s : StoredQuery) : T
   pub stands : Stands s cells report
   pub buffer : cellRoom ≤ length before → after ≡ cells
 
--- what a call answers, with the run of cells before and after it
+-- what a call answers, with the cell buffer before and after it
 pub record Accepts (bs : Bytes) (before after : List ℤ) (a : AcceptAnswer) : Type 0 where
   pub answer : numberIn (a .outcome) ≡ refusal bs
   pub buffer : CellsAfter bs before after

@@ -1,5 +1,4 @@
--- The fields of a line without its line feed, as the code appends them. They serve the code; no demand cites them. The laws
--- say how the lines of the print are made of them.
+-- Laws of fields: the digits of a number, an entry of a row, the bits of a set, and how the fields of a line are made of them.
 -- Assumes nothing.
 use mathlib.Core.Path.{_≡_, refl, sym, ap, _∙_}
 use mathlib.Core.Bool.{true, false}
@@ -71,6 +70,8 @@ entry-number x e = rw (ne-eqb x blankRow e)
 pub entry-few : (x most : ℕ) → x ≤ 999 → digitsOf 5 x ≡ digitsOf most x → entryField x ≡ tab ∷ digitsOf most x
 unfolding blankRow printedNumber printedField printNumber
 entry-few x most h e = entry-number x (λ (b : x ≡ blankRow). omega (arith, b, h)) ∙ ap (λ (b : Bytes). tab ∷ b) e
+
+-- ---- the numbers of the bits that are set
 
 pub bit-set : (m k : ℕ) → hasBit m k ≡ true → bitField m k ≡ printedNumber k
 unfolding bitField keep flatMap

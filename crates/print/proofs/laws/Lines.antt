@@ -1,6 +1,4 @@
--- The lines of the print as the code appends them, field after field. They serve the code; no demand cites them. The laws say
--- that they are the lines of the print.
--- Assumes nothing.
+-- The lines of the print, as the code appends them field after field. Assumes nothing.
 use mathlib.Core.Path.{_≡_, ap, refl, sym, _∙_, ap₂}
 use mathlib.Core.List.{List, [], _∷_, _++_, map, flatMap, append-assoc, append-nil}
 use Prim.Native.Nat.{ℕ, _≤_, _<_, zero, suc, _+_}

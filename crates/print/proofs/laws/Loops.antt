@@ -1,6 +1,5 @@
--- What a loop appends: the bytes of each number below a bound, one after the other. It serves the code; no demand cites it.
--- The laws say that this agrees with lists that are gone through from the front.
--- Assumes nothing.
+-- What a loop appends: the bytes of each number below a bound, one after the other; it agrees with lists that are gone through from the
+-- front. Assumes nothing.
 use mathlib.Core.Path.{_≡_, ap, _∙_, sym, refl, ap₂}
 use mathlib.Core.List.{[], _++_, List, append-assoc, append-nil, _∷_, flatMap}
 use mathlib.Core.Bool.{Bool}

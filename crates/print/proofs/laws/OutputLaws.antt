@@ -1,5 +1,4 @@
--- What a function that appends to the output leaves there. These notions serve the code; no demand cites them.
--- Assumes nothing.
+-- Laws of bytes that are appended to the output: in parts, in other forms, and as a whole. Assumes nothing.
 use mathlib.Core.Path.{_≡_, sym, ap, _∙_, ap₂, subst, refl}
 use mathlib.Core.List.{List, [], _∷_, _++_}
 use Prim.Native.Nat.{ℕ, suc, _+_, _≤_}

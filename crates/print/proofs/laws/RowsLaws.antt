@@ -1,4 +1,4 @@
--- The rows that stand one after the other in a result buffer. Assumes nothing.
+-- Laws of rows in a result buffer: rows that were written are read again, and each has its place. Assumes nothing.
 use mathlib.Core.Path.{_≡_, refl, ap, sym, ap₂, _∙_}
 use mathlib.Core.List.{List, [], _∷_, _++_, flatMap, append-assoc}
 use Prim.Native.Nat.{ℕ, _+_, _*_, _≤_, _<_, zero, suc}

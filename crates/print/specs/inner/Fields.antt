@@ -1,6 +1,4 @@
--- The fields of a line without its line feed, as the code appends them. They serve the code; no demand cites them. The laws
--- say how the lines of the print are made of them.
--- Assumes nothing.
+-- The fields of a line without its line feed, as the code appends them. Assumes nothing.
 use mathlib.Core.List.{_∷_, [], flatMap}
 use Prim.Native.Nat.{ℕ}
 use Rattle.rows.specs.Lists.{keep}

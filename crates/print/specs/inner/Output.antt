@@ -1,5 +1,4 @@
--- What a function that appends to the output leaves there. These notions serve the code; no demand cites them.
--- Assumes nothing.
+-- What a function that appends bytes to the output leaves there. Assumes nothing.
 use mathlib.Core.Path.{_≡_}
 use mathlib.Core.List.{List}
 use Prim.Native.Nat.{ℕ, _+_, _≤_}

@@ -1,5 +1,4 @@
--- The room that the parts of the print take: bounds on their bytes, by which the code shows that it stays within the output. They
--- serve the code; no demand cites them.
+-- The room that the parts of the print take: bounds on their bytes, by which the code shows that it stays within the output.
 -- Assumes nothing.
 use Prim.Native.Nat.{ℕ, _+_, _*_}
 use Rattle.cells.specs.Limits.{mostConditions, mostTables, mostRows, mostSteps}

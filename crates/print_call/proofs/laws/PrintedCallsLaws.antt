@@ -1,5 +1,4 @@
--- The print of a call as it leaves the output and all lent memory. Document 01, "The whole print of one report"; the size of the
--- output is this project's own (docs/DECISIONS.md). Assumes nothing.
+-- The bytes that a call printed are within the output. Assumes nothing.
 use mathlib.Core.Path.{_≡_, sym, ap, _∙_}
 use mathlib.Core.Bool.{Bool, true, false}
 use mathlib.Core.List.{List, _++_}
@@ -16,8 +15,6 @@ use Rattle.print.specs.declared.whole.Printed.the-variants.{Bytes as Wrote, NoR
 use Rattle.engine.specs.Calls.{Lent, directCall, reportCall}
 use Rattle.engine.specs.Programs.{directProgram, reportProgram}
 use Rattle.print_call.specs.PrintedCalls.{PrintedCall, printCall, printed, printDirectCall, printReportCall}
-
--- ---- laws
 
 -- the bytes that were printed are within the output
 module _ (b : Bytes) (after before : Lent) (out : List ℕ) {r : Printed} {out′ : List ℕ} {lent : Lent} (n : ℕ)

@@ -1,4 +1,4 @@
--- Laws of pairs one after the other: what is asked of each is what document 01 asks of all of them. Assumes nothing.
+-- Laws of pairs one after the other: what is asked of each is what questions 5 and 9 ask of all of them. Assumes nothing.
 use mathlib.Core.Path.{refl, _≡_, subst}
 use mathlib.Core.Logic.{_⊎_, inl, inr, ⊎-elim, _≢_}
 use mathlib.Core.Bool.{Bool, not, _&&_, _||_, true, false}

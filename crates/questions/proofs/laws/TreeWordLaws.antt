@@ -1,5 +1,4 @@
--- Shapes that serve the contracts of this crate's functions alone; no demand cites them. Of each node's tree, the tables of the
--- right sides of its outer joins, as words. Assumes nothing.
+-- Laws of the tables of the right sides of outer joins over words: join after join they answer question 8. Assumes nothing.
 use mathlib.Core.Bool.{Bool, not, _&&_, true, false}
 use mathlib.Core.Path.{_≡_, refl, sym, ap, _∙_, subst, ap₂}
 use mathlib.Core.Logic.{⊎-elim, by-cases}

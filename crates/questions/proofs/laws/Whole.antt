@@ -1,6 +1,5 @@
--- Shapes that serve the contracts of the code alone; no demand cites them. The query that is kept answers for the whole one: where
--- a text has more lines than there is room for, the question about them is answered no, and else nothing was left out.
--- Assumes nothing.
+-- The query that is kept answers for the whole one: where a text has more lines than there is room for, the question about them is
+-- answered no, and else nothing was left out. Assumes nothing.
 use mathlib.Core.Path.{_≡_, sym, _∙_, refl, ap, ap₂}
 use mathlib.Core.Logic.{by-cases}
 use mathlib.Core.Bool.{Bool, false, _&&_, not}

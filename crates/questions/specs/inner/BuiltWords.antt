@@ -1,5 +1,4 @@
--- Shapes that serve the contracts of this crate's functions alone; no demand cites them. Pairs one after the other, with the nodes
--- that are sides already as a word. Assumes nothing.
+-- Questions 5 and 9 pair by pair, with the nodes that are sides already as a word. For the functions of src/built.rt. Assumes nothing.
 use mathlib.Core.Bool.{Bool, not, _&&_, true}
 use mathlib.Core.List.{List, [], _∷_}
 use Prim.Native.Nat.{ℕ, suc}

@@ -1,5 +1,5 @@
--- Shapes that serve the contracts of this crate's functions alone; no demand cites them. Conditions against the tables under
--- nodes, these as words. Assumes nothing.
+-- Questions 6 and 7 condition by condition, with the tables under each node as words. For the functions of src/conditions.rt and
+-- src/crossing.rt. Assumes nothing.
 use mathlib.Core.Bool.{Bool, _&&_, true, not}
 use mathlib.Core.List.{List}
 use Prim.Native.Nat.{ℕ}

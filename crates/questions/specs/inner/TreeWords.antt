@@ -1,5 +1,5 @@
--- Shapes that serve the contracts of this crate's functions alone; no demand cites them. Of each node's tree, the tables of the
--- right sides of its outer joins, as words. Assumes nothing.
+-- Question 8 join by join: of each node's tree, the tables of the right sides of its outer joins, as words. For the functions of
+-- src/simplified.rt. Assumes nothing.
 use mathlib.Core.Bool.{Bool, not, _&&_}
 use mathlib.Core.List.{List}
 use Prim.Native.Nat.{ℕ}

@@ -44,6 +44,8 @@ next-same p (joinsPart (joinLine k a b)) = if-same (leb (p .part) 2) 2
 next-same p (joinsPart (conditionLine c)) = if-same (eqb (p .part) 2) 2
 next-same p (orderPart (orderLine a b)) = if-same (leb (p .part) 3) 3
 
+-- ---- the reading after lines
+
 -- one line, and then the others
 lines-step : (s : Reading) (x : Line) (ls : List Line) (q : PlaceRead) → nextRead (s .place) (lineRead (some x)) ≡ some q
     → linesAfter (atPlace (told s (lineRead (some x))) q) ls ≡ linesAfter s (x ∷ ls)

@@ -1,5 +1,4 @@
--- Serves the code's pass over the cells; no demand cites it. The run of cells line by line: it begins with the cells of the lines that
--- were read. Assumes nothing.
+-- Laws of the cell buffer, line by line: at the end it begins with the text's cells. Assumes nothing.
 use mathlib.Core.Path.{_≡_, ap, _∙_, refl, sym}
 use mathlib.Core.List.{List, _++_, [], append-assoc, append-nil}
 use Prim.Native.Nat.{_+_, ℕ, _-_, _≤_}
@@ -45,7 +44,7 @@ laid-line bs at to cells out {next} {o} l e h p q =
       held = rw (p, l .place) (begins-more cells (l .front) zs (l .held));
     }
 
--- another run with the same front: what stands behind it does not count
+-- another cell buffer with the same front: what stands behind it does not count
 pub laid-same : (bs : Bytes) (at : ℕ) (cells : List ℤ) (out : ℕ) {next : List ℤ} → LaidTo bs at cells out
     → length next ≡ length cells → take out next ≡ take out cells → LaidTo bs at next out
 laid-same bs at cells out {next} l n p = record {

@@ -1,4 +1,4 @@
--- The cells that an accepted text's layout and run hold are the report's, at every table, row and column, also where there is none.
+-- The cells that an accepted text's layout and cell buffer hold are the report's, at every table, row and column, also where there is none.
 -- Assumes nothing.
 use mathlib.Core.Path.{_≡_, refl, _∙_, ap}
 use mathlib.Core.Bool.{Bool, true, false, and-false}

@@ -1,5 +1,5 @@
--- What the lines of a report leave in the code's structs is the report: its counts, its tables' columns, rows and places, its
--- joins, conditions and pairs, and the answers of questions 3 and 4. Assumes nothing.
+-- What the lines of a report leave in the code's structs is the report: its counts, its joins, conditions and pairs, and its tables'
+-- columns and rows. Assumes nothing.
 use mathlib.Core.Path.{_≡_, sym, refl, _∙_, ap}
 use mathlib.Core.List.{List, [], _∷_, map}
 use Prim.Native.Nat.{_+_, ℕ, suc, _-_}

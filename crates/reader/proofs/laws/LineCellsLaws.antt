@@ -1,4 +1,4 @@
--- Serves the code's pass over the cells; no demand cites it. The cells of a text's D lines, line after line. Assumes nothing.
+-- Laws of the cells of a text's D lines: by the tests that the code makes, field after field and line after line. Assumes nothing.
 use mathlib.Core.Path.{_≡_, refl, _∙_, sym}
 use mathlib.Core.Bool.{Bool, true, false}
 use mathlib.Core.List.{[], _∷_, _++_, List}
@@ -75,7 +75,7 @@ pub cells-all : (bs : Bytes) → textCells bs ≡ linesCells (lineParts bs 0)
 unfolding textCells lineParts
 cells-all bs = rw (le-leb 0 (length bs) (omega arith))
 
--- ---- the run, turn by turn
+-- ---- the cell buffer, turn by turn
 
 module _ (zs₀ : List ℤ) (cells₀ cells : List ℤ) (out o : ℕ) (ws : List ℤ) where
   pub laid-stop : ws ≡ [] → cellsLaid cells₀ out zs₀ ≡ cellsLaid cells o ws → cells ≡ cellsLaid cells₀ out zs₀

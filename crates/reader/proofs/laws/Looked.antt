@@ -1,4 +1,4 @@
--- What the layout and the run of an accepted text hold is the report's cells: document 01, "a table is looked at through its row
+-- What the layout and the cell buffer of an accepted text hold is the report's cells: document 01, "a table is looked at through its row
 -- count, column count and own cells". Assumes nothing.
 use mathlib.Core.Path.{_≡_, ap, _∙_, refl, sym}
 use mathlib.Core.Bool.{true, Bool, false}
@@ -156,7 +156,7 @@ module _ (ls : List Line) (early : earlyRows ls ≡ []) (fits : length (tablesIn
       ∙ sets-at (set (replicate mostTables 0) (0 - 1) (0 + length (earlyRows ls))) (map (λ (x : Table). length (x .rows)) ts) t 0 (omega arith) (omega arith)
       ∙ List·getD-map (λ (x : Table). length (x .rows)) ts t noTable
 
-  -- the cells that the layout and the run hold of a table are the table's
+  -- the cells that the layout and the cell buffer hold of a table are the table's
   pub cells-looked : (more : List ℤ) (row column : ℕ) → Wide (table .columns) (table .rows)
       → cellsIn (flatTables ts ++ more) layout t row column ≡ getD (getD (table .rows) row []) column blankCell
   unfolding cellsIn

@@ -1,4 +1,5 @@
--- What the reading of a text answers: document 01, "Questions, in order", 2 to 4. Assumes nothing.
+-- The reading's answer, by what the pass over the lines leaves and by the tests that the code makes, is that of questions 2 to 4.
+-- Assumes nothing.
 use mathlib.Core.Path.{_≡_, refl, ap, ap₂, _∙_, sym}
 use mathlib.Core.Bool.{Bool, true, false}
 use mathlib.Core.List.{List}
@@ -92,7 +93,7 @@ module _ (bs : Bytes) (r : Stepped) (e : stepIn r ≡ surveyOf bs) where
       ap says p ∙ sym (both-passed (tablesFit (r .reading .tables)) (r .reading .tables .even) (says (storedOf (r .reading))) (sym f ∙ k) n)
       ∙ ap surveyOutcome (accepted h) ∙ outcome-same bs
 
--- ---- the run
+-- ---- the cell buffer
 
 pub cells-refused : (bs : Bytes) (n : ℕ) (before after : List ℤ) → turnedDown n ≡ readOutcome bs → length after ≡ length before → CellsAfter bs before after
 cells-refused bs n before after e k = record { kept = k; begins = λ q p. clash (let z : turnedDown n ≡ says q = e ∙ sym p in cc) }

@@ -51,7 +51,7 @@ module _ (t : Tables) where
   unfolding tablesFit
   fit-rest a b c d = rw (le-leb 1 (t .count) a, le-leb (t .count) mostTables b, le-leb (t .rows) mostRows c, le-leb (t .cells) mostCells d, and-true (t .fits))
 
--- ---- a run of stores from the start of an array
+-- ---- stores one after another from the start of an array
 
 module _ {A : Type 0} where
   pub sets-take : (l vs : List A) → length vs ≤ length l → take (length vs) (sets l 0 vs) ≡ vs

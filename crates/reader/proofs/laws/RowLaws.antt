@@ -1,5 +1,4 @@
--- Serves the code's pass over the lines; no demand cites it. A D line read cell by cell in one look at each byte, and its cells put into
--- the run. Assumes nothing.
+-- Laws of a D line that is read cell by cell, and of its cells in the cell buffer. Assumes nothing.
 use mathlib.Core.Path.{_≡_, subst, refl, ap, _∙_, sym}
 use mathlib.Core.List.{List, [], _∷_}
 use Prim.Native.Nat.{ℕ, _+_, _-_, _≤_, _<_}
@@ -34,8 +33,8 @@ pub row-bad : (bs : Bytes) (at : ℕ) (before : List ℤ) (out : ℕ) (cells : L
     → r ≡ A.Bad → take out cells ≡ take out before
 row-bad bs at before out cells h e = subst (RowStands bs at before out cells) e h
 
--- Of the line at `at`, the cells of the fields before place `i` are in the run, up to place `o`: what the line is, its cells and the
--- place behind them are told by the fields from there on.
+-- Of the line at `at`, the cells of the fields before place `i` are in the cell buffer, up to place `o`: what the line is, its cells and
+-- the place behind them are told by the fields from there on.
 abbrev pub RowTo : Bytes → ℕ → List ℤ → ℕ → ℕ → List ℤ → ℕ → Type 0
 RowTo bs at before out i cells o =
     (at + 2 ≤ i) × (i ≤ length bs) × (out ≤ o) × (o ≤ i) × (take out cells ≡ take out before)

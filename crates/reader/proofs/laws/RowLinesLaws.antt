@@ -1,4 +1,4 @@
--- Serves the code's pass over the lines; no demand cites it. A run of D lines read with the tables alone, and the reading after it.
+-- Laws of D lines one after another, read with the tables alone: the reading after them is that of the pass over the lines.
 -- Assumes nothing.
 use mathlib.Core.Path.{_≡_, refl, ap, _∙_, sym, subst}
 use mathlib.Core.Bool.{Bool, _&&_, true, false}
@@ -29,7 +29,7 @@ use Rattle.reader.specs.inner.RowLines.{RowsTo, Surveyed}
 abbrev pub ReadsTo : Bytes → ℕ → Reading → ℕ → Reading → Type 0
 ReadsTo bs at s to u = (at ≤ to) × (to ≤ length bs) × Bounded to u × (readFrom s (linesFrom bs at) ≡ readFrom u (linesFrom bs to))
 
--- an empty run
+-- no D line
 pub rows-none : (bs : Bytes) (part at : ℕ) (t : Tables) → at ≤ length bs → t .rows ≤ at → RowsTo bs part at t at t
 rows-none bs part at t h k = (omega arith, h, refl, k, λ s e. refl)
 
@@ -62,7 +62,7 @@ rows-put bs from t at u r e = subst (λ (x : Tables). RowsTo bs 1 from t at x) (
 pub rows-in : (bs : Bytes) (part at : ℕ) (t : Tables) (to : ℕ) (u : Tables) → part ≡ 1 → RowsTo bs 1 at t to u → RowsTo bs part at t to u
 rows-in bs part at t to u e r = rw e r
 
--- the run, with the other parts as they were
+-- the D lines, with the other parts as they were
 pub reads-rows : (bs : Bytes) (at to : ℕ) (s : Reading) (u : Tables) {v : Reading} → Bounded at s
     → RowsTo bs (s .place .part) at (s .tables) to u → v ≡ withTables s u → ReadsTo bs at s to v
 reads-rows bs at to s u b r d = subst (λ (x : Reading). ReadsTo bs at s to x) (sym d) (

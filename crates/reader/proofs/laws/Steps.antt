@@ -1,4 +1,4 @@
--- Serves the code's pass over the lines; no demand cites it. The steps of State by the tests that the code makes. Assumes nothing.
+-- What one line more does to the code's structs, by the tests that the code makes. Assumes nothing.
 use mathlib.Core.Path.{_≡_, sym}
 use mathlib.Core.Bool.{Bool, false, and-false, _&&_, and-true}
 use mathlib.Core.List.{List}

@@ -1,5 +1,5 @@
--- Serves the code's pass over the lines; no demand cites it. The place of a line, the reading after it, and after the lines that are
--- left. Assumes nothing.
+-- Laws of the pass over the lines: the place of a line, one line more, the lines that are left, and that no count passes the lines that
+-- were read. Assumes nothing.
 use mathlib.Core.Path.{_≡_, ap, _∙_, sym, refl, subst}
 use mathlib.Core.Bool.{false}
 use Prim.Native.Nat.{ℕ, _≤_, _<_, _+_, _-_}

@@ -1,4 +1,4 @@
--- The pass over the lines reads the lines that question 2 accepts: document 01, "Report text". Assumes nothing.
+-- The place and the reading behind lines that question 2 accepts, by the lines of each part. Assumes nothing.
 use mathlib.Core.List.{List, [], _∷_}
 use mathlib.Core.Option.{none, some}
 use Rattle.text.specs.Lines.{Line}
@@ -13,8 +13,6 @@ use Rattle.reader.specs.declared.survey.Reading.{Reading}
 unfoldable pub lastPlace : PlaceRead → List Line → PlaceRead
 lastPlace p [] = p
 lastPlace p (x ∷ ls) = lastPlace (elim (nextRead p (lineRead (some x))) [ none ↦ p | some q ↦ q ]) ls
-
--- ---- the reading after lines
 
 -- after lines that stand in their places: each struct by the lines of its part
 unfoldable pub linesAfter : Reading → List Line → Reading

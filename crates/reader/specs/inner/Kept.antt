@@ -1,5 +1,4 @@
--- What the lines of a report leave in the code's structs is the report: its counts, its tables' columns, rows and places, its
--- joins, conditions and pairs, and the answers of questions 3 and 4. Assumes nothing.
+-- What the lines of a report leave in each of the code's structs, line after line. Assumes nothing.
 use mathlib.Core.List.{List, [], _∷_}
 use Prim.Native.Nat.{ℕ, _+_}
 use lib.ListN.{length, set}
@@ -9,8 +8,6 @@ use Rattle.reader.specs.inner.State.{afterTable, afterRow, afterJoin, af
 use Rattle.reader.specs.declared.tables.Tables.{Tables}
 use Rattle.reader.specs.declared.join_lines.Joins.{Joins}
 use Rattle.reader.specs.declared.pairs.Pairs.{Pairs}
-
--- ---- the effect of its lines on each struct
 
 unfoldable pub tablesAfter : Tables → List TableLine → Tables
 tablesAfter t [] = t

@@ -1,4 +1,5 @@
--- Serves the code's pass over the cells; no demand cites it. The cells of a text's D lines, line after line. Assumes nothing.
+-- The cells of a text's D lines, line after line, and cells put into the cell buffer. For the functions of src/cell_buffer.rt.
+-- Assumes nothing.
 use mathlib.Core.List.{List, [], _∷_, _++_}
 use mathlib.Core.Option.{Option, none, some}
 use Prim.Native.Nat.{ℕ, _+_}
@@ -37,7 +38,7 @@ textCells bs = linesCells (split lineFeed bs)
 unfoldable pub lineParts : Bytes → ℕ → List Bytes
 lineParts bs at = if leb at (length bs) then split lineFeed (drop at bs) else []
 
--- cells laid into the run from a place on, and the place behind them
+-- cells put into the cell buffer from a place on, and the place behind them
 unfoldable pub cellsLaid : List ℤ → ℕ → List ℤ → List ℤ
 cellsLaid cells o zs = sets cells o zs
 

@@ -1,4 +1,5 @@
--- What the reading of a text answers: document 01, "Questions, in order", 2 to 4. Assumes nothing.
+-- What the reading of a text answers, by questions 2 to 4, and what it leaves in the cell buffer. For the function of src/read.rt.
+-- Assumes nothing.
 use mathlib.Core.Path.{_≡_}
 use mathlib.Core.List.{List}
 use mathlib.Core.Option.{none, some, Option}
@@ -45,7 +46,7 @@ outcomeOf (some ls) = linesOutcome ls
 unfoldable pub readOutcome : Bytes → TextOutcome
 readOutcome bs = outcomeOf (textLines bs)
 
--- the run of cells: it is as long as it was; it begins with the text's cells where the text passes questions 2 to 4
+-- the cell buffer: it is as long as it was; it begins with the text's cells where the text passes questions 2 to 4
 pub record CellsAfter (bs : Bytes) (before after : List ℤ) : Type 0 where
   pub kept : length after ≡ length before
   pub begins : (q : StoredQuery) → says q ≡ readOutcome bs → Begins after (textCells bs)

@@ -1,4 +1,4 @@
--- The query that the pass over the lines leaves is the report's: document 01, "Report text". Assumes nothing.
+-- The query that a reading stands for, and question 3 on what the T and D lines left. For the functions of src/stored.rt. Assumes nothing.
 use mathlib.Core.Bool.{Bool, _&&_}
 use Prim.Native.Nat.{_-_}
 use lib.Dec.{leb}

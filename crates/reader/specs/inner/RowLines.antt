@@ -1,5 +1,4 @@
--- Serves the code's pass over the lines; no demand cites it. A run of D lines read with the tables alone, and the reading after it.
--- Assumes nothing.
+-- D lines one after another, read with the tables alone, and the reading after them; and what the pass over a text answers. Assumes nothing.
 use mathlib.Core.Path.{_≡_}
 use mathlib.Core.Bool.{true}
 use mathlib.Core.List.{List}
@@ -22,6 +21,6 @@ RowsTo bs part at t to u =
     (at ≤ to) × (to ≤ length bs) × (u .count ≡ t .count) × (u .rows ≤ to)
     × ((s : Reading) → s .place .part ≡ part → readFrom (withTables s t) (linesFrom bs at) ≡ readFrom (withTables s u) (linesFrom bs to))
 
--- What the pass answers to a text, and the run after it: the text's cells first, where the text is not refused.
+-- What the pass answers to a text, and the cell buffer after it: the text's cells first, where the text is not refused.
 abbrev pub Surveyed : Bytes → List ℤ → Stepped → Type 0
 Surveyed bs buffer r = (stepIn r ≡ surveyOf bs) × (r .accepted ≡ true → Begins buffer (textCells bs))

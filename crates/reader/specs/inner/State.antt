@@ -1,5 +1,4 @@
--- Serves the code's pass over the lines; no demand cites it. What the lines read so far leave in the code's structs, line by line.
--- Assumes nothing.
+-- What one line more does to the code's structs: tables, joins with their conditions, and pairs. Assumes nothing.
 use mathlib.Core.Bool.{true, Bool, _&&_}
 use mathlib.Core.List.{List}
 use Prim.Native.Nat.{ℕ, _-_, _+_}
@@ -80,6 +79,8 @@ withTableCounts s rows cells even = record {
   fits = s .fits;
   even = even;
 }
+
+-- ---- J, C and K lines
 
 unfoldable pub noJoins : Joins
 noJoins = record {

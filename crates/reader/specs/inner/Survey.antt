@@ -1,5 +1,4 @@
--- Serves the code's pass over the lines; no demand cites it. The place of a line, the reading after it, and after the lines that are
--- left. Assumes nothing.
+-- The pass over the lines: the place of a line, the reading after it, and the reading after the lines that are left. Assumes nothing.
 use mathlib.Core.List.{List, [], _∷_}
 use mathlib.Core.Option.{Option, none, some}
 use Prim.Native.Nat.{ℕ}

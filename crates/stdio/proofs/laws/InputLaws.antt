@@ -1,4 +1,4 @@
--- How much was read. Assumes nothing.
+-- What was read fits the buffer, by the answer. Assumes nothing.
 use mathlib.Core.Path.{_≡_, subst}
 use Prim.Native.Nat.{ℕ, _≤_}
 use Rattle.stdio.specs.declared.Input.{Input}

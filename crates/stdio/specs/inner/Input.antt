@@ -1,4 +1,4 @@
--- How much was read. Assumes nothing.
+-- How much was read: it fits the buffer. Assumes nothing.
 use Prim.Native.Nat.{ℕ, _≤_}
 use Rattle.stdio.specs.declared.Input.{Input}
 use Rattle.stdio.specs.declared.Input.the-variants.{Bytes, Failed}

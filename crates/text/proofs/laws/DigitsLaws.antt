@@ -1,5 +1,5 @@
--- Serves the code's loop over digits; no demand cites it. A number read digit by digit, up to a limit, is `natural`'s where that is
--- within the limit. Assumes nothing.
+-- A number read digit by digit, up to a limit, is `natural`'s where that is within the limit; and a number of at most 4 digits is `small`'s.
+-- Assumes nothing.
 use mathlib.Core.Path.{_≡_, refl, sym, _∙_}
 use mathlib.Core.Bool.{Bool, true, false, _&&_, and-true, not}
 use mathlib.Core.List.{[], _∷_, foldl}

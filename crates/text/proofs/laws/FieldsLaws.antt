@@ -1,4 +1,4 @@
--- Serves the code's readers of fields; no demand cites it. The fields of a line by the tests that the code makes. Assumes nothing.
+-- Laws of the fields of a line, by the tests that the code makes. Assumes nothing.
 use mathlib.Core.Path.{_≡_, refl, ap, _∙_}
 use mathlib.Core.Bool.{and-false}
 use mathlib.Core.List.{List, _∷_, []}

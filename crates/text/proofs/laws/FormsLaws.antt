@@ -1,5 +1,4 @@
--- Serves the code's readers of lines; no demand cites it but what a line's reading says, `lineRead`. The forms of lines behind
--- their letters. Assumes nothing.
+-- Laws of the forms of lines behind their letters, field after field as the code reads them. Assumes nothing.
 use mathlib.Core.Path.{_≡_, refl, sym, ap, _∙_}
 use mathlib.Core.List.{List, [], _∷_}
 use mathlib.Core.Option.{Option, none, some}

@@ -1,4 +1,4 @@
--- Serves the code's reader of lines; no demand cites it. A line by its letter. Assumes nothing.
+-- A line by its letter, and a line that no letter opens. Assumes nothing.
 use mathlib.Core.Path.{_≡_, _∙_, refl, sym, ap}
 use mathlib.Core.Bool.{false}
 use mathlib.Core.List.{[], _∷_, List}

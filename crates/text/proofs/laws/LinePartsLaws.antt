@@ -1,5 +1,4 @@
--- The lines of one part of a text: document 01, "All T and D lines come first, then each J with its C and K lines, then P lines".
--- Assumes nothing.
+-- Lines of which nothing is picked make no difference to the lines of a part. Assumes nothing.
 use mathlib.Core.Path.{_≡_, refl}
 use mathlib.Core.Bool.{Bool, true, false}
 use mathlib.Core.List.{List, [], _∷_}

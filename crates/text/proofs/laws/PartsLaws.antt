@@ -1,5 +1,4 @@
--- Serves the code's cursors; no demand cites it. Where the next separator stands, and the fields and lines that are left from a
--- place on: they are those that `split` cuts. Assumes nothing.
+-- Laws of places in a text: the fields and lines that are left from a place on are those that `split` cuts. Assumes nothing.
 use mathlib.Core.Path.{_≡_, refl, _∙_}
 use mathlib.Core.Bool.{Bool, true, false}
 use mathlib.Core.List.{List, [], _∷_}

@@ -1,5 +1,4 @@
--- The lines of a text without its order: "The query is the J, C and K lines; the two runs' texts may differ in the lines of the
--- order" (document 01, "The plan"). Assumes nothing.
+-- Texts with the same lines but for their order say the same report but for its order. Assumes nothing.
 use mathlib.Core.Path.{_≡_, sym, ap, _∙_, refl}
 use mathlib.Core.Bool.{false, not}
 use mathlib.Core.List.{List}
@@ -11,9 +10,7 @@ use Rattle.text.proofs.laws.LinePartsLaws.{picked-keep}
 use Rattle.text.specs.Reading.{tablesOf, joinsOf, conditionsOf, reportOf}
 use Rattle.text.specs.QueryLines.{isOrder, queryLines}
 
--- ---- they say all of the report but its order
-
--- what is picked of no line of the order is picked of them as of all lines
+-- what is picked of no line of the order is the same of both
 query-picked : {A : Type 0} (f : Line → Option A) → ((x : OrderLine) → f (orderPart x) ≡ none) → (a b : List Line)
     → queryLines a ≡ queryLines b → picked f a ≡ picked f b
 unfolding queryLines isOrder

@@ -1,5 +1,4 @@
--- Serves the code's numbers with a sign; no demand cites it. Numbers in a cell's range by the tests that the code makes.
--- Assumes nothing.
+-- Laws of numbers in a cell's range, of constants and of cells, by the tests that the code makes. Assumes nothing.
 use mathlib.Core.Path.{_≡_, refl, sym, ap, _∙_}
 use mathlib.Core.Bool.{Bool, true, false, and-false as and-no}
 use mathlib.Core.List.{[], _∷_}

@@ -1,4 +1,5 @@
--- The report that a text says: document 01, "Report text". Assumes nothing.
+-- The report that a text says: its query is well read, and it is what the text's lines say; no D line comes before its first T line.
+-- Assumes nothing.
 use mathlib.Core.Path.{ap, _≡_, refl, sym, subst, _∙_}
 use mathlib.Core.List.{List, _∷_, []}
 use mathlib.Core.Option.{Option, none, some}

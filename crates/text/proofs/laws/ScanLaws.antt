@@ -1,4 +1,4 @@
--- Serves the code's look at the cells of a text; no demand cites it. A cell byte by byte. Assumes nothing.
+-- Laws of the bytes between two places: digits, and a cell byte by byte. Assumes nothing.
 use mathlib.Core.Path.{_≡_, _∙_, refl, sym, ap}
 use mathlib.Core.Bool.{Bool, true, false}
 use mathlib.Core.List.{[], _∷_, _++_}

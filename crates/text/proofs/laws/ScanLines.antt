@@ -1,5 +1,4 @@
--- Serves the code's look at the cells of a text; no demand cites it. A cell between two places of a text, with a tab or the line's end
--- behind it, is a field of its line. Assumes nothing.
+-- A cell between two places of a text, with a tab or the line's end behind it, is a field of its line. Assumes nothing.
 use mathlib.Core.Path.{_≡_, refl, _∙_, sym, subst}
 use mathlib.Core.Bool.{true, _&&_, Bool, false}
 use mathlib.Core.List.{[], _∷_, _++_}

@@ -1,4 +1,4 @@
--- What each answer of the readers says. Assumes nothing.
+-- What the answers of the readers of numbers say. Assumes nothing.
 use mathlib.Core.Option.{Option, none, some}
 use Prim.Native.Nat.{ℕ}
 use Rattle.text.specs.declared.number.Natural.{Natural}

@@ -1,5 +1,4 @@
--- Serves the code's loop over digits; no demand cites it. A number read digit by digit, up to a limit, is `natural`'s where that is
--- within the limit. Assumes nothing.
+-- A number read digit by digit, up to a limit. Assumes nothing.
 use mathlib.Core.List.{[], _∷_}
 use mathlib.Core.Option.{Option, none, some}
 use Prim.Native.Nat.{ℕ, _+_, _*_, _-_}

@@ -1,4 +1,4 @@
--- Serves the code's readers of fields; no demand cites it. The fields of a line by the tests that the code makes. Assumes nothing.
+-- The fields of a line as the code reads them: operators, two numbers, and a join's kind as it is kept. Assumes nothing.
 use mathlib.Core.List.{[], _∷_, List}
 use mathlib.Core.Option.{Option, none, some}
 use Prim.Native.Nat.{ℕ}

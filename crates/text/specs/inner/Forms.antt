@@ -1,5 +1,4 @@
--- Serves the code's readers of lines; no demand cites it but what a line's reading says, `lineRead`. The forms of lines behind
--- their letters. Assumes nothing.
+-- What the reading of a line says, and the form of each kind of line behind its letter. Assumes nothing.
 use mathlib.Core.List.{List}
 use mathlib.Core.Option.{Option, none, some}
 use lib.ListN.{length}

@@ -1,5 +1,4 @@
--- Serves the code's cursors; no demand cites it. Where the next separator stands, and the fields and lines that are left from a
--- place on: they are those that `split` cuts. Assumes nothing.
+-- Where the next separator stands, and the fields and lines that are left from a place on. Assumes nothing.
 use mathlib.Core.List.{[], _∷_, List}
 use mathlib.Core.Option.{Option}
 use Prim.Native.Nat.{ℕ, suc}

@@ -1,5 +1,4 @@
--- Serves the code's numbers with a sign; no demand cites it. Numbers in a cell's range by the tests that the code makes.
--- Assumes nothing.
+-- A number that a cell may have. Assumes nothing.
 use mathlib.Core.Option.{Option, none, some}
 use lib.IntN.{ℤ}
 use Rattle.cells.specs.Cell.{cellOf}

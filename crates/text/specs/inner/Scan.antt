@@ -1,4 +1,4 @@
--- Serves the code's look at the cells of a text; no demand cites it. What stands between two places of a text. Assumes nothing.
+-- A cell looked at byte by byte: what stands between two places of a text. Assumes nothing.
 use mathlib.Core.Path.{_≡_}
 use mathlib.Core.Option.{some}
 use Prim.Native.Nat.{ℕ, _-_, _≤_, _<_}

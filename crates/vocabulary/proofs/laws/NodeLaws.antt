@@ -1,6 +1,4 @@
--- Laws of nodes: the tables under a node are those of its tree; where each side is a lower node and no node is a side twice
--- (questions 5 and 9), nodes that are no side yet have no table in common, and the last node has every table.
--- Assumes nothing.
+-- Laws of nodes: lists that grow, and that the tables under a node are those of its tree. Assumes nothing.
 use mathlib.Core.Path.{_≡_, refl, _∙_, sym, subst, ap, ap₂}
 use mathlib.Core.Logic.{by-cases, _⊎_, _↔_, inl, inr, ⊎-elim}
 use mathlib.Core.Bool.{_&&_}

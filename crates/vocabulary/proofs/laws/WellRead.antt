@@ -1,11 +1,9 @@
--- Laws of sets: the sets that document 01's rule gives, join after join, are what the joins' tree has applied to its tables.
+-- What the reading of a text gives of its query: a join's conditions are conditions of the query, and no J line is a product.
 -- Assumes nothing.
 use Prim.Native.Nat.{ℕ}
 use Rattle.rows.specs.Lists.{_isIn_}
 use Rattle.rows.proofs.laws.ShapesLaws.{BlanksRight}
 use Rattle.vocabulary.specs.Report.{Join, Query, conditionNumbers}
-
--- ---- the sets are what the tree has applied
 
 -- the conditions of a join are conditions of the query
 abbrev pub Numbered : Query → Join → Type 0

@@ -1,5 +1,4 @@
--- What is kept of a text, its query and its cells, and the report that the text says. Serves the contracts of the code only: no demand
--- cites it. Assumes nothing.
+-- What is kept of a text, its query and its cells, stands for the report that the text says. Assumes nothing.
 use mathlib.Core.Path.{_≡_}
 use mathlib.Core.List.{List}
 use Prim.Native.Nat.{ℕ, _+_, _<_, _≤_}
@@ -14,7 +13,7 @@ use Rattle.vocabulary.specs.inner.Stored.{queryIn}
 use Rattle.vocabulary.specs.declared.query.StoredJoin.{StoredJoin}
 use Rattle.vocabulary.specs.declared.query.StoredQuery.{StoredQuery}
 
--- the stored query and the run of cells stand for the report, whose tables questions 3 and 4 passed
+-- the stored query and the cells stand for the report, whose tables questions 3 and 4 passed
 pub record Stands (s : StoredQuery) (cells : List ℤ) (r : Report) : Type 0 where
   pub some : 1 ≤ s .«table_count»
   pub few : s .«table_count» ≤ mostTables

@@ -25,7 +25,7 @@ queryIn s = record {
   pairs = map pairIn (take (s .«pair_count») (s .pairs));
 }
 
--- ---- J, C and K lines
+-- a join that no J line has put there
 
 unfoldable pub noJoin : StoredJoin
 noJoin = record { kind = Inner; left = 0; right = 0; first = 0; count = 0 }

@@ -1,5 +1,5 @@
--- Shapes that serve the contracts of this crate's functions alone; no demand cites them. Sets of conditions and of tables as
--- words, and lists of them as the code's arrays. Assumes nothing.
+-- Sets of numbers as words of 64 bits: a choice of a word, the union and the intersection of words, and the tables that a word has room for.
+-- Assumes nothing.
 use mathlib.Core.Bool.{Bool}
 use mathlib.Core.List.{List, [], _∷_}
 use Prim.Native.Nat.{ℕ, zero, suc}
@@ -9,8 +9,6 @@ use Rattle.cells.specs.Choice.{if_then_else_}
 use Rattle.rows.specs.Lists.{keep}
 use Rattle.vocabulary.specs.Bits.{wordSize}
 use Rattle.vocabulary.specs.Steps.{bitsOf}
-
--- ---- words
 
 -- a word where a test is passed, else the empty set
 unfoldable pub onlyIf : Bool → ℕ → ℕ

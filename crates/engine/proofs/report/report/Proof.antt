@@ -1,6 +1,7 @@
--- `engine::report::report` meets its contract: a walk of its MIR, by hand. A local array of sixteen zero steps is lent to `report_into` for a lifetime of the call and is back after it (`Local.antt`); `by_value` puts it into the result. The text's reference is Copy; cells, work buffer and result go to `report_into` for good.
--- All that the proof knows of the callees is that each meets its contract.
--- Assumes nothing.
+-- `engine::report::report` meets its contract: a walk of its MIR, by hand. A local array of sixteen zero steps is lent to `report_into` for
+-- a lifetime of the call and is back after it (`Local.antt` of crate step_list); `by_value` puts it into the result. The text's reference
+-- is Copy; cells, work buffer and result go to `report_into` for good.
+-- All that the proof knows of the callees is that each meets its contract. Assumes nothing.
 use mathlib.Core.Path.{_≡_, refl, ap, subst}
 use Prim.Native.Nat.{ℕ}
 use mathlib.Core.List.{List, [], _∷_}

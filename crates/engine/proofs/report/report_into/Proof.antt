@@ -1,7 +1,10 @@
--- `engine::report::report_into` meets its contract: a walk of its MIR, by hand, with a branch that returns and six calls. `too_little` answers question 1; where it says yes nothing was touched.
--- Else the text and the cells go to `prepare`, the steps to `put_plan`, the three to `run_over` with the work buffer, each lent again for the call (the cells are shown to `run_over`), and come back (`Lending.antt`); then cells, work buffer and result go to `conclude` and the steps to `put_plan` for good.
--- All that the proof knows of the callees is that each meets its contract; that the contract follows from theirs is `report-short` and `report-done` of `ReportCode.antt`.
--- Assumes nothing.
+-- `engine::report::report_into` meets its contract: a walk of its MIR, by hand, with a branch that returns and six calls. `too_little`
+-- answers question 1; where it says yes nothing was touched.
+-- Else the text and the cells go to `prepare`, the steps to `put_plan`, the three to `run_over` with the work buffer, each lent again for
+-- the call (the cells are shown to `run_over`), and come back (`Lending.antt` of crate step_list); then cells, work buffer and result go to
+-- `conclude` and the steps to `put_plan` for good.
+-- All that the proof knows of the callees is that each meets its contract; that the contract follows from theirs is `report-short` and
+-- `report-done` of proofs/laws/ReportCode.antt. Assumes nothing.
 use mathlib.Core.Path.{_≡_, refl, _∙_, ap, subst}
 use Prim.Native.Nat.{ℕ}
 use mathlib.Core.Bool.{Bool, true, false, not}

@@ -1,4 +1,4 @@
--- `accept::accept::accept` meets its contract: the reader's refusal, or the query's. Assumes nothing.
+-- `prepare::accept::accept` meets its contract: the reader's refusal, or the query's. Assumes nothing.
 use borrow.Author.Needs.{needs}
 use Rattle.prepare.proofs.laws.AcceptLaws.{call-refused, call-tables, call-asked}
 use Rattle.prepare.proofs.accept.accept.Statement.{statement}

@@ -1,4 +1,4 @@
--- `accept::accept::ask` meets its contract: the first no of what the query is asked. Assumes nothing.
+-- `prepare::accept::ask` meets its contract: the first no of what the query is asked. Assumes nothing.
 use borrow.Author.Needs.{needs}
 use borrow.Author.Tests.{not-true, not-false}
 use Rattle.prepare.proofs.laws.AcceptLaws.{refused-5, refused-6, refused-7, refused-8, accepted, joins-room, joins-built, counted}

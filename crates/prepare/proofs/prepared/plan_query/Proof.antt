@@ -1,4 +1,4 @@
--- `ready::prepared::plan_query` meets its contract: what the order is asked, the sets and the plan. Assumes nothing.
+-- `prepare::prepared::plan_query` meets its contract: what the order is asked, the sets and the plan. Assumes nothing.
 use borrow.Author.Tests.{not-true, not-false}
 use borrow.Author.Needs.{needs}
 use Rattle.prepare.proofs.laws.PreparedLaws.{nine-away, ten-away, all-planned, pairs-room, nine-yes, ready-parts}

@@ -1,4 +1,4 @@
--- `ready::prepared::turned_away` meets its contract: no set and no step. Assumes nothing.
+-- `prepare::prepared::turned_away` meets its contract: no set and no step. Assumes nothing.
 use borrow.Author.Needs.{needs}
 use Rattle.prepare.specs.inner.Prepared.{turnedAway}
 use Rattle.prepare.proofs.prepared.turned_away.Statement.{statement}

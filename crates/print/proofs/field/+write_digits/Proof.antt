@@ -1,4 +1,4 @@
--- `print::field::write_digits` meets its contract: one law of Fields for each way out. The measure is `most`. Assumes nothing.
+-- `print::field::write_digits` meets its contract: one law of FieldsLaws for each way out. The measure is `most`. Assumes nothing.
 use Prim.Native.Nat.{ℕ, _<_}
 use mathlib.Core.Path.{sym}
 use native.Mathlib.Omega.{arith}

@@ -1,4 +1,4 @@
--- `program::direct::print_direct` meets its contract: the room, the call, and its print. Assumes nothing.
+-- `print_call::direct::print_direct` meets its contract: the room, the call, and its print. Assumes nothing.
 use borrow.Author.Needs.{needs}
 use Rattle.print_call.specs.PrintedCalls.{printDirectCall}
 use Rattle.print_call.proofs.laws.DirectPrint.{no-room, printed-refused, printed-rows}

@@ -1,4 +1,4 @@
--- `program::report::print_report` meets its contract: the room, the call, and its print. Assumes nothing.
+-- `print_call::report::print_report` meets its contract: the room, the call, and its print. Assumes nothing.
 use borrow.Author.Needs.{needs}
 use Rattle.print_call.specs.PrintedCalls.{printReportCall}
 use Rattle.print_call.proofs.laws.DirectPrint.{no-room}

@@ -1,4 +1,4 @@
--- `plan::simplified::fits` meets its contract: both sides fit, or the left one does not. Assumes nothing.
+-- `questions::simplified::fits` meets its contract: both sides fit, or the left one does not. Assumes nothing.
 use mathlib.Core.Path.{sym, _∙_}
 use borrow.Author.Needs.{needs}
 use Rattle.questions.specs.inner.TreeWords.{simplifiedBits}

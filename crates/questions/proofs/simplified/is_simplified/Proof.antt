@@ -1,4 +1,4 @@
--- `plan::simplified::is_simplified` meets its contract: the lines so far fit. Assumes nothing.
+-- `questions::simplified::is_simplified` meets its contract: the lines so far fit. Assumes nothing.
 use mathlib.Core.Path.{_≡_, refl, sym, ap, _∙_}
 use Prim.Native.Nat.{_≤_, _-_}
 use native.Mathlib.Omega.{arith}

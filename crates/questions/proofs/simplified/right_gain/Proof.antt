@@ -1,4 +1,4 @@
--- `plan::simplified::right_gain` meets its contract: one case for each kind. Assumes nothing.
+-- `questions::simplified::right_gain` meets its contract: one case for each kind. Assumes nothing.
 use borrow.Author.Needs.{needs}
 use Rattle.questions.specs.inner.TreeWords.{rightGain}
 use Rattle.questions.proofs.simplified.right_gain.Statement.{statement}

@@ -1,4 +1,4 @@
--- `plan::simplified::right_sides` meets its contract: the word of what its calls give. Assumes nothing.
+-- `questions::simplified::right_sides` meets its contract: the word of what its calls give. Assumes nothing.
 use borrow.Author.Needs.{needs}
 use Rattle.vocabulary.specs.inner.Stored.{joinIn}
 use Rattle.questions.specs.inner.TreeWords.{rightBits}

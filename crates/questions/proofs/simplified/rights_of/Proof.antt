@@ -1,4 +1,4 @@
--- `plan::simplified::rights_of` meets its contract: the trees of the lines so far. Assumes nothing.
+-- `questions::simplified::rights_of` meets its contract: the trees of the lines so far. Assumes nothing.
 use mathlib.Core.Path.{_≡_, refl, sym, ap, ap₂, _∙_}
 use Prim.Native.Nat.{ℕ, _≤_, _-_, _+_}
 use native.Mathlib.Omega.{arith}

@@ -1,4 +1,4 @@
--- `plan::simplified::side_fits` meets its contract: a side that is blanked, or one that is not. Assumes nothing.
+-- `questions::simplified::side_fits` meets its contract: a side that is blanked, or one that is not. Assumes nothing.
 use mathlib.Core.Path.{_≡_, refl}
 use mathlib.Core.Bool.{Bool, true, false, not}
 use Rattle.questions.specs.inner.TreeWords.{sideFits}

@@ -1,4 +1,4 @@
--- `load::cell_run::put` meets its contract: nothing is kept past the run's end. Assumes nothing.
+-- `reader::cell_buffer::put` meets its contract: nothing is kept past the buffer's end. Assumes nothing.
 use mathlib.Core.Path.{sym}
 use lib.Seq.{set-out}
 use borrow.Author.Needs.{needs}

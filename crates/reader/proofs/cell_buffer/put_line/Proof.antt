@@ -1,4 +1,4 @@
--- `load::cell_run::put_line` meets its contract: a line that is no D line writes nothing. Assumes nothing.
+-- `reader::cell_buffer::put_line` meets its contract: a line that is no D line writes nothing. Assumes nothing.
 use mathlib.Core.Path.{ap, sym, _∙_}
 use native.Mathlib.Omega.{arith}
 use borrow.Author.Needs.{needs}

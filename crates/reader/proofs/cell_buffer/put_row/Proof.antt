@@ -1,4 +1,4 @@
--- `load::cell_run::put_row` meets its contract: the cells from here on, put behind those before them, are the fields' cells. Assumes nothing.
+-- `reader::cell_buffer::put_row` meets its contract: the cells from here on, put behind those before them, are the fields' cells. Assumes nothing.
 use mathlib.Core.Path.{_≡_, refl, ap, sym, _∙_}
 use native.Mathlib.Omega.{arith}
 use Prim.Native.Nat.{_+_, _≤_, _-_}

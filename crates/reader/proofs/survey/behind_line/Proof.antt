@@ -1,4 +1,4 @@
--- `reader::survey::behind_line` meets its contract: the run goes on behind the line's cells. Assumes nothing.
+-- `reader::survey::behind_line` meets its contract: the cell buffer goes on behind the line's cells. Assumes nothing.
 use Prim.Native.Nat.{_-_}
 use native.Mathlib.Omega.{arith}
 use lib.ListN.{drop}

@@ -1,5 +1,5 @@
 -- `reader::survey::read_lines` meets its contract: the reading of what is left, after the lines before it, is the reading of the text, and
--- the run begins with the cells of the lines before it. Assumes nothing.
+-- the cell buffer begins with the cells of the lines before it. Assumes nothing.
 use mathlib.Core.Path.{_≡_, refl, ap, sym, _∙_}
 use native.Mathlib.Omega.{arith}
 use Prim.Native.Nat.{_+_, _≤_, _-_}

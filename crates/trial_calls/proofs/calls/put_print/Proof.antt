@@ -1,4 +1,4 @@
--- `trial::calls::put_print` meets its contract: the bytes of a print lie within the output. Assumes nothing.
+-- `trial_calls::calls::put_print` meets its contract: the bytes of a print lie within the output. Assumes nothing.
 use mathlib.Core.Path.{sym}
 use lib.Seq.{length-take-le}
 use borrow.Author.Needs.{needs}

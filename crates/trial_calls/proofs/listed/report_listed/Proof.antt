@@ -1,6 +1,7 @@
--- `trial::listed::report_listed` meets its contract: a walk of its MIR, by hand. The first n steps of a local array are lent to `report_into` for a lifetime of the call and are back after it (`First.antt`); `with_list` puts the array into the result. The text's reference is Copy; cells, work buffer and result go to `report_into` for good.
--- All that the proof knows of the callees is that each meets its contract.
--- Assumes nothing.
+-- `trial_calls::listed::report_listed` meets its contract: a walk of its MIR, by hand. The first n steps of a local array are lent to
+-- `report_into` for a lifetime of the call and are back after it (`First.antt`); `with_list` puts the array into the result. The text's
+-- reference is Copy; cells, work buffer and result go to `report_into` for good.
+-- All that the proof knows of the callees is that each meets its contract. Assumes nothing.
 use mathlib.Core.Path.{_≡_, refl, sym, _∙_, ap, subst}
 use Prim.Native.Nat.{ℕ, _<_, _≤_, _^_}
 use native.Mathlib.Nat.{lt-of-le-of-lt, mul-le-mul-right}

@@ -1,4 +1,4 @@
--- `trial::memory::first_steps` meets its contract: each turn copies the next step. Assumes nothing.
+-- `trial_calls::memory::first_steps` meets its contract: each turn copies the next step. Assumes nothing.
 use borrow.Author.Needs.{needs}
 use mathlib.Core.Path.{_≡_}
 use Prim.Native.Nat.{_≤_, _-_}

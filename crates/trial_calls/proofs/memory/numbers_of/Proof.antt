@@ -1,4 +1,4 @@
--- `trial::memory::numbers_of` meets its contract: the product of small counts fits. Assumes nothing.
+-- `trial_calls::memory::numbers_of` meets its contract: the product of small counts fits. Assumes nothing.
 use Prim.Native.Nat.{_*_, _≤_}
 use native.Mathlib.Nat.{mul-le-mul}
 use native.Mathlib.Omega.{arith}

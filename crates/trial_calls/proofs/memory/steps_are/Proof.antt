@@ -1,4 +1,4 @@
--- `trial::memory::steps_are` meets its contract: each turn looks at the next step. Assumes nothing.
+-- `trial_calls::memory::steps_are` meets its contract: each turn looks at the next step. Assumes nothing.
 use borrow.Author.Needs.{needs}
 use Prim.Native.Nat.{_≤_, _-_}
 use Rattle.trial_calls.proofs.memory.steps_are.Statement.{statement}

@@ -1,4 +1,4 @@
--- `plan::bits::every_unless` meets its contract: one case for each outcome of the test. Assumes nothing.
+-- `vocabulary::bits::every_unless` meets its contract: one case for each outcome of the test. Assumes nothing.
 use borrow.Author.Needs.{needs}
 use Rattle.vocabulary.specs.inner.Words.{everyBit, everyUnless}
 use Rattle.vocabulary.proofs.bits.every_unless.Statement.{statement}

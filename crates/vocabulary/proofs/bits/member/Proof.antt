@@ -1,4 +1,4 @@
--- `plan::bits::member` meets its contract: a bit above the width is not set, else the shift. Assumes nothing.
+-- `vocabulary::bits::member` meets its contract: a bit above the width is not set, else the shift. Assumes nothing.
 use mathlib.Core.Path.{refl, sym}
 use borrow.Author.Needs.{needs}
 use Rattle.vocabulary.specs.Bits.{hasBit}

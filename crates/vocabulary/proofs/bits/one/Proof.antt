@@ -1,4 +1,4 @@
--- `plan::bits::one` meets its contract: the shift loses nothing. Assumes nothing.
+-- `vocabulary::bits::one` meets its contract: the shift loses nothing. Assumes nothing.
 use borrow.Author.Needs.{needs}
 use Rattle.vocabulary.proofs.laws.WordLaws.{shifted-one}
 use Rattle.vocabulary.proofs.bits.one.Statement.{statement}

@@ -1,4 +1,4 @@
--- `plan::bits::only` meets its contract: one case for each outcome of the test. Assumes nothing.
+-- `vocabulary::bits::only` meets its contract: one case for each outcome of the test. Assumes nothing.
 use borrow.Author.Needs.{needs}
 use Rattle.vocabulary.specs.inner.Words.{onlyIf}
 use Rattle.vocabulary.proofs.bits.only.Statement.{statement}

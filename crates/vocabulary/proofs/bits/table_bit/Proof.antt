@@ -1,4 +1,4 @@
--- `plan::bits::table_bit` meets its contract: a number above the width is left out. Assumes nothing.
+-- `vocabulary::bits::table_bit` meets its contract: a number above the width is left out. Assumes nothing.
 use mathlib.Core.Path.{_∙_, sym}
 use borrow.Author.Needs.{needs}
 use Rattle.vocabulary.proofs.laws.WordLaws.{table-bits, no-table-bits}

@@ -1,4 +1,4 @@
--- `plan::facts::no_facts` meets its contract. Assumes nothing.
+-- `vocabulary::facts::no_facts` meets its contract. Assumes nothing.
 use mathlib.Core.Path.{refl}
 use Rattle.vocabulary.specs.Facts.{noFacts}
 use Rattle.vocabulary.proofs.facts.no_facts.Statement.{statement}

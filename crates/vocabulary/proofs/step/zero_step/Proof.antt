@@ -1,4 +1,4 @@
--- `plan::step::zero_step` meets its contract: every part is 0. Assumes nothing.
+-- `vocabulary::step::zero_step` meets its contract: every part is 0. Assumes nothing.
 use mathlib.Core.Path.{refl}
 use Rattle.vocabulary.specs.Steps.{zeroStep}
 use Rattle.vocabulary.proofs.step.zero_step.Statement.{statement}

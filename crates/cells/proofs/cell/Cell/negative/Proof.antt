@@ -1,4 +1,5 @@
--- `cells::cell::Cell::negative` meets its contract: within the range by `negative-within`, below it by `negative-outside`; the difference fits. Assumes nothing.
+-- `cells::cell::Cell::negative` meets its contract: within the range by `negative-within`, below it by `negative-outside`; the difference
+-- fits. Assumes nothing.
 use mathlib.Core.Path.{sym}
 use mir.Syntax.{w32}
 use mir.ValLaws.{toZ-ofZ}
