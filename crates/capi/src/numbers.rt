@@ -42,7 +42,14 @@ fn put(buffer: &mut [u64], at: usize, n: u64) -> usize
 }
 
 // The counts of rows, tables and steps, and the status.
-fn put_counts(buffer: &mut [u64], at: usize, rows: u64, tables: u64, count: u64, status: u64) -> usize
+fn put_counts(
+    buffer: &mut [u64],
+    at: usize,
+    rows: u64,
+    tables: u64,
+    count: u64,
+    status: u64,
+) -> usize
     requires { ⌜ at + 4 ≤ length (now buffer) ⌝ }
     ensures { λ r. ⌜ Written (now (buffer .entry)) at (rows ∷ tables ∷ count ∷ status ∷ []) 4 (now (buffer .exit)) r ⌝ }
 {

@@ -1,7 +1,7 @@
 // The report.
+use crate::numbers;
 use cells::limits::STEPS;
 use cells::limits::TABLES;
-use crate::numbers;
 ghost use mathlib.Core.Path.{_≡_};
 ghost use Rattle.capi.specs.Entries.{reportEntry};
 

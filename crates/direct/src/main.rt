@@ -20,7 +20,13 @@ fn main() {
     let mut work = [0u16; WORK_ROOM];
     let mut result = [0u16; RESULT_ROOM];
     let mut out = [0u8; PRINT_ROOM];
-    let p = print_call::direct::print_direct(&text[..n], &mut cells, &mut work, &mut result, &mut out);
+    let p = print_call::direct::print_direct(
+        &text[..n],
+        &mut cells,
+        &mut work,
+        &mut result,
+        &mut out,
+    );
     let Printed::Bytes(m) = p else {
         return;
     };

@@ -13,14 +13,15 @@ use Rattle.engine.specs.Calls.{Lent, reportCall, directCall}
 use Rattle.engine.specs.declared.answer.Answer.{Answer}
 use Rattle.engine.specs.declared.answer.Answer.the-variants.{Rows, Refused}
 
--- the numbers of all questions that a call of the engine, and of the direct reading, is asked
+-- the numbers of all questions that a call of the engine, and of the direct reading, is asked. Specification 9.2
 unfoldable pub askedOfReport : List ℕ
 askedOfReport = 1 ∷ 2 ∷ numbersOf reportQuestions
 
+-- Specification 9.2
 unfoldable pub askedOfDirect : List ℕ
 askedOfDirect = 1 ∷ 2 ∷ numbersOf directQuestions
 
--- an answer is a count of rows, or one of these numbers
+-- an answer is a count of rows, or one of these numbers. Specification 1.7
 abbrev pub Decided : List ℕ → Answer → Type 0
 Decided ns a = ((n : ℕ) × (a ≡ Rows n)) ⊎ ((n : ℕ) × (a ≡ Refused n) × (n isIn ns))
 

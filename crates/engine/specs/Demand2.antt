@@ -1,5 +1,5 @@
--- Demand 2: the rows that the two routines write are those that SQL's joins define for the tree of the text as written: each due row
--- once, no other, in rising order. This file is the statement; proofs/Demand2.antt proves it. Assumes nothing.
+-- Demand 2: the rows that the two routines write are those that SQL's joins define for the tree of the text as written: each due row once,
+-- no other, in rising order. This file is the statement; proofs/Demand2.antt proves it. Specification 1.8. Assumes nothing.
 use mathlib.Core.Path.{_≡_}
 use mathlib.Core.List.{List}
 use mathlib.Core.Option.{some}
@@ -16,13 +16,13 @@ use Rattle.text.specs.Reading.{readReport}
 use Rattle.engine.specs.Calls.{Lent, written, ReportCall, reportCall, DirectCall, directCall}
 use Rattle.engine.specs.declared.answer.Answer.the-variants.{Rows}
 
--- the rows are those of the tree that the text says: each due row once, no other, in rising order
+-- the rows are those of the tree that the text says: each due row once, no other, in rising order. Specification 1.8
 pub record DueRows (text : Bytes) (rows : List Row) : Type 0 where
   pub report : Report
   pub read : readReport text ≡ some report
   pub reads : Reads (database report) (joinTree (queryOf report)) rows
 
--- n rows are written at the front of a result buffer, the rest of which keeps its contents: the rows of the text's tree
+-- n rows are written at the front of a result buffer, the rest of which keeps its contents: the rows of the text's tree. Specification 1.8, 10.5
 pub record DueWritten (text : Bytes) (n : ℕ) (before after : List ℕ) : Type 0 where
   pub rows : List Row
   pub due : DueRows text rows

@@ -1,5 +1,5 @@
 -- Demand 3: any joining order, any list of blanking steps, the same rows. Document 01, "The plan", second paragraph. This file is the
--- statement; proofs/Demand3.antt proves it. Assumes nothing.
+-- statement; proofs/Demand3.antt proves it. Specification 1.9, 8.6. Assumes nothing.
 use mathlib.Core.Path.{_≡_}
 use mathlib.Core.List.{List}
 use mathlib.Core.Option.{none, some}
@@ -25,7 +25,7 @@ use Rattle.engine.specs.declared.answer.Answer.the-variants.{Rows, Refus
 
 -- Two texts and their lines (question 2 turns neither down), with the same T, D, J, C and K lines. "The query with its tables is
 -- accepted if nothing that the direct reading is asked before question 11 turns either text down [3 to 8]; an order is admitted if no
--- question that the direct reading skips [9 and 10] turns down the text that holds it", here the second
+-- question that the direct reading skips [9 and 10] turns down the text that holds it", here the second. Specification 8.4, 8.5
 pub record SameQuery (first second : Bytes) (a b : List Line) : Type 0 where
   pub first-read : textLines first ≡ some a
   pub second-read : textLines second ≡ some b
@@ -35,13 +35,14 @@ pub record SameQuery (first second : Bytes) (a b : List Line) : Type 0 where
   pub order-admitted : firstNo orderQuestions (queryOf (reportOf b)) ≡ none
 
 -- For every list of blanking steps that document 01 allows after the second text's pairs, the run of its plan gives the rows of the
--- first text's tree read directly: as many, and row after row the same row number or blank in every table
+-- first text's tree read directly: as many, and row after row the same row number or blank in every table. Specification 8.6
 abbrev pub Demand3 : Type 0
 Demand3 = (first second : Bytes) (a b : List Line) → SameQuery first second a b
     → (L : List (Blanking ℕ)) → BlankingList (groundOf (queryOf (reportOf b))) L
     → runRows (reportOf b) L ≡ directRows (reportOf a)
 
 -- One of the two calls answers 11, or both answer the same count of rows and write the same rows at the front of their result buffers
+-- Specification 8.7
 pub data CallsAgree (direct : DirectCall) (report : ReportCall) (m k : List ℕ) : Type 0 where
   direct-11 : direct .answer ≡ Refused 11 → CallsAgree direct report m k
   report-11 : report .answer ≡ Refused 11 → CallsAgree direct report m k

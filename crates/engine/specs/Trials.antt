@@ -1,5 +1,5 @@
--- The starred trials of document 01, as one list under one proof that antt computes. Assumes nothing.
--- In a `text`, | is a tab and a space parts two lines, as document 01 shows them; the last line is closed too.
+-- The starred trials of document 01, as one list under one proof that antt computes. Specification 13.2, 13.3, 13.4. Assumes nothing. In a
+-- `text`, | is a tab and a space parts two lines, as document 01 shows them; the last line is closed too.
 use mathlib.Core.Path.{_≡_}
 use mathlib.Core.List.{List, [], _∷_, map}
 use Prim.Native.Nat.{ℕ}
@@ -29,7 +29,7 @@ prints (trial program input expected) = program input
 abbrev pub expects : Trial → Bytes
 expects (trial program input expected) = expected
 
--- the starred trials, by program `report` and by program `direct`
+-- the starred trials, by program `report` and by program `direct`. Specification 13.2, 13.3, 13.4
 unfoldable pub trials : List Trial
 trials =
     -- the report above, both ways

@@ -1,6 +1,6 @@
 // The direct reading of a text: document 01, "The tree read directly".
-use cells::limits::STEP_ROOM;
 use crate::answer::Answer;
+use cells::limits::STEP_ROOM;
 use joins::join::Joined;
 use prepare::accept::AcceptOutcome;
 use vocabulary::query::StoredQuery;
@@ -45,7 +45,8 @@ pub struct Found {
 // Questions 2 to 8 and 11 of a text, and its rows. The cell buffer and the work buffer are left as they come.
 fn read_text(text: &[u8], cells: &mut [i32], work: &mut [u16], result: &mut [u16]) -> Found
     requires { ⌜ (cellRoom ≤ length (now cells)) × (workRoom ≤ length (now work)) × (resultRoom ≤ length (now result)) ⌝ }
-    ensures { λ r. ⌜ Gave (directOutcome (now (text .entry))) (now (result .entry)) (now (result .exit)) (r .answer) × (r .tables ≡ widthOf (now (text .entry)) (r .answer)) ⌝ }
+    ensures { λ r. ⌜ Gave (directOutcome (now (text .entry))) (now (result .entry)) (now (result .exit)) (r .answer)
+        × (r .tables ≡ widthOf (now (text .entry)) (r .answer)) ⌝ }
 {
     let a = prepare::accept::accept(text, cells);
     let outcome = a.outcome;

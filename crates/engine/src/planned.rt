@@ -1,12 +1,12 @@
 // The state at the start of a run, and what the run hands over: document 01, "The plan".
-use cells::limits::AREAS;
 use crate::answer::Answer;
+use cells::limits::AREAS;
 use joins::join::Joined;
 use plan::steps::Plan;
 use prepare::prepared::Prepared;
 use step_list::state::State;
-use vocabulary::facts::Facts;
 use vocabulary::facts;
+use vocabulary::facts::Facts;
 ghost use mathlib.Core.Path.{_≡_};
 ghost use Prim.Native.Nat.{_≤_};
 ghost use Rattle.cells.specs.Limits.{areas};

@@ -1,9 +1,9 @@
 // The report of a text: document 01, "The plan". The plan is handed over in a lent list of steps, or by value.
-use cells::limits::STEPS;
 use crate::lent;
+use crate::planned;
 use crate::planned::Planned;
 use crate::planned::Reply;
-use crate::planned;
+use cells::limits::STEPS;
 use plan::steps::Plan;
 use prepare::prepared;
 use vocabulary::step::Step;

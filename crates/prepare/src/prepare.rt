@@ -1,7 +1,7 @@
 // A text made ready for its run: questions 2 to 10 and the plan.
 use crate::accept::AcceptOutcome;
-use crate::prepared::Prepared;
 use crate::prepared;
+use crate::prepared::Prepared;
 ghost use Rattle.prepare.specs.inner.Prepare.{Prepares};
 
 // Questions 2 to 10 of a text. The cell buffer begins with the text's cells where it passes questions 2 to 4.

@@ -1,6 +1,6 @@
 // The fields of a line, each behind its tab.
-use cells::limits::CONDITIONS;
 use crate::output;
+use cells::limits::CONDITIONS;
 use vocabulary::bits;
 ghost use Prim.Native.Nat.{_+_, _≤_, _<_};
 ghost use lib.ListN.{length};

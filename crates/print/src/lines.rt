@@ -1,7 +1,7 @@
 // The lines of all tables, of all steps and of all rows.
+use crate::line;
 use cells::limits::STEPS;
 use cells::limits::TABLES;
-use crate::line;
 use vocabulary::step::Step;
 ghost use mathlib.Core.List.{flatMap};
 ghost use Prim.Native.Nat.{_+_, _*_, _≤_};

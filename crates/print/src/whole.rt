@@ -1,10 +1,10 @@
 // The whole print of an answer.
+use crate::line;
+use crate::lines;
 use cells::limits::PRINT_ROOM;
 use cells::limits::ROWS;
 use cells::limits::STEPS;
 use cells::limits::TABLES;
-use crate::line;
-use crate::lines;
 use vocabulary::facts::Facts;
 use vocabulary::step::Step;
 ghost use mathlib.Core.Bool.{true};
@@ -60,7 +60,8 @@ fn write_report(
     rows: usize,
 ) -> usize
     requires { ⌜ Fitting facts count rows (length (now result)) × (at + reportRoom ≤ length (now out)) ⌝ }
-    ensures { λ r. ⌜ Written (now (out .entry)) at (reportBytes facts (take count steps) (resultRows (facts .tables) rows (now (result .entry)))) reportRoom (now (out .exit)) r ⌝ }
+    ensures { λ r. ⌜ Written (now (out .entry)) at (reportBytes facts (take count steps)
+        (resultRows (facts .tables) rows (now (result .entry)))) reportRoom (now (out .exit)) r ⌝ }
 {
     let sets = facts.sets;
     let mut next = lines::write_sets(out, at, sets, facts.tables);

@@ -1,8 +1,8 @@
 // Questions 5 and 9: how the J lines and the P lines join nodes.
 use cells::limits::JOINS;
 use cells::limits::PAIRS;
-use plan::order::Order;
 use plan::order;
+use plan::order::Order;
 use vocabulary::bits;
 use vocabulary::query::StoredPair;
 use vocabulary::query::StoredQuery;

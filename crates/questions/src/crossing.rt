@@ -1,6 +1,6 @@
 // Question 7: the C lines between the two sides of a join.
-use cells::limits::NODES;
 use crate::conditions;
+use cells::limits::NODES;
 use plan::order;
 use plan::pairs;
 use plan::sets;

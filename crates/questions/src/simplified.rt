@@ -1,7 +1,7 @@
 // Question 8: whether the tree of the J lines is simplified.
 use cells::limits::NODES;
-use plan::join::BitJoin;
 use plan::join;
+use plan::join::BitJoin;
 use plan::order;
 use plan::sets;
 use rows::kind::Kind;

@@ -24,7 +24,8 @@ pub fn put(cells: &mut [i32], i: usize, z: i32)
 // The cells of a line's fields from `at` on, from place `out` of the cell buffer on; the place behind them.
 fn put_row(l: &[u8], at: usize, cells: &mut [i32], out: usize) -> usize
     requires { ⌜ (at ≤ length (now l) + 1) × (out + length (now l) ≤ 4294967296) ⌝ }
-    ensures { λ r. ⌜ (now (cells .exit) ≡ cellsLaid (now (cells .entry)) out (goodCells (fieldsFrom (now (l .entry)) at))) × (r ≡ behind out (goodCells (fieldsFrom (now (l .entry)) at)))
+    ensures { λ r. ⌜ (now (cells .exit) ≡ cellsLaid (now (cells .entry)) out (goodCells (fieldsFrom (now (l .entry)) at)))
+        × (r ≡ behind out (goodCells (fieldsFrom (now (l .entry)) at)))
         × (r ≤ out + length (now (l .entry)) + 1) ⌝ }
 {
     let mut o = out;

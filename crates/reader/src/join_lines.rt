@@ -1,9 +1,9 @@
 // What the J, C and K lines read so far say.
+use crate::tables;
 use cells::condition::Condition;
 use cells::condition::Side;
 use cells::limits::CONDITIONS;
 use cells::limits::JOINS;
-use crate::tables;
 use rows::kind::Kind;
 use text::line::LineRead;
 use vocabulary::query::StoredJoin;

@@ -1,11 +1,11 @@
 // A run of D lines in the tables part of a text, read with the tables alone, in one look at each byte: the other parts of a reading are
 // large to copy at each line. No line is refused here: one that has another form ends the run, and `text::line` reads it.
 use crate::cell_buffer;
-use crate::tables::Tables;
 use crate::tables;
+use crate::tables::Tables;
 use text::part;
-use text::scan::CellAt;
 use text::scan;
+use text::scan::CellAt;
 ghost use mathlib.Core.Path.{_≡_};
 ghost use Prim.Native.Nat.{_<_, _≤_};
 ghost use lib.ListN.{length, getD};
@@ -74,8 +74,10 @@ pub(crate) fn read_rows(
     cells: &mut [i32],
     first: usize,
 ) -> RowsRead
-    requires { ⌜ (from ≤ length (now text)) × (length (now text) ≤ mostBytes) × (before .rows ≤ from) × (first ≤ from) × LaidTo (now text) from (now cells) first ⌝ }
-    ensures { λ r. ⌜ RowsTo (now (text .entry)) 1 from before (r .at) (r .tables) × (r .out ≤ r .at) × LaidTo (now (text .entry)) (r .at) (now (cells .exit)) (r .out) ⌝ }
+    requires { ⌜ (from ≤ length (now text)) × (length (now text) ≤ mostBytes) × (before .rows ≤ from) × (first ≤ from)
+        × LaidTo (now text) from (now cells) first ⌝ }
+    ensures { λ r. ⌜ RowsTo (now (text .entry)) 1 from before (r .at) (r .tables) × (r .out ≤ r .at)
+        × LaidTo (now (text .entry)) (r .at) (now (cells .exit)) (r .out) ⌝ }
 {
     let columns = before.columns;
     let mut rows = before.rows;

@@ -1,11 +1,11 @@
 // The query that the lines of a text say, and question 3; `read` asks question 4.
+use crate::join_lines;
+use crate::survey::Reading;
+use crate::tables;
+use crate::tables::Tables;
 use cells::limits::CELLS;
 use cells::limits::ROWS;
 use cells::limits::TABLES;
-use crate::join_lines;
-use crate::survey::Reading;
-use crate::tables::Tables;
-use crate::tables;
 use vocabulary::query::StoredQuery;
 ghost use mathlib.Core.Path.{_≡_};
 ghost use Rattle.reader.specs.inner.Query.{storedOf, tablesFit};

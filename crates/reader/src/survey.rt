@@ -1,21 +1,21 @@
 // One pass over the lines of a text: question 2, what questions 3 to 9 are asked about, and the cells.
+use crate::cell_buffer;
+use crate::join_lines;
+use crate::join_lines::Joins;
+use crate::pairs;
+use crate::pairs::Pairs;
+use crate::place;
+use crate::place::Next;
+use crate::place::Place;
+use crate::row_lines;
+use crate::row_lines::RowsRead;
+use crate::tables;
+use crate::tables::Tables;
 use cells::condition::Condition;
 use cells::limits::BYTES;
 use cells::limits::CONDITIONS;
-use crate::cell_buffer;
-use crate::join_lines::Joins;
-use crate::join_lines;
-use crate::pairs::Pairs;
-use crate::pairs;
-use crate::place::Next;
-use crate::place::Place;
-use crate::place;
-use crate::row_lines::RowsRead;
-use crate::row_lines;
-use crate::tables::Tables;
-use crate::tables;
-use text::line::LineRead;
 use text::line;
+use text::line::LineRead;
 use text::part;
 ghost use mathlib.Core.Path.{_≡_};
 ghost use mathlib.Core.Bool.{true, false};
@@ -142,7 +142,8 @@ fn behind_line(
 ) -> RowsRead
     requires { ⌜ (to ≡ at + until lineFeed (drop at (now text))) × (at ≤ to) × (to < length (now text)) × (length (now text) ≤ mostBytes) × (t .rows ≤ to + 1)
         × (out ≤ at) × LaidTo (now text) at (now cells) out ⌝ }
-    ensures { λ r. ⌜ RowsTo (now (text .entry)) (p .part) (to + 1) t (r .at) (r .tables) × (r .out ≤ r .at) × LaidTo (now (text .entry)) (r .at) (now (cells .exit)) (r .out) ⌝ }
+    ensures { λ r. ⌜ RowsTo (now (text .entry)) (p .part) (to + 1) t (r .at) (r .tables) × (r .out ≤ r .at)
+        × LaidTo (now (text .entry)) (r .at) (now (cells .exit)) (r .out) ⌝ }
 {
     let next = cell_buffer::put_line(&text[at..to], cells, out);
     if p.part != place::TABLES {

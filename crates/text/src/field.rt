@@ -1,8 +1,8 @@
 // Fields of a line: each answer has the place where the next field begins, past the line's end if there is none.
-use cells::cell::Made;
-use crate::number::Small;
 use crate::number;
+use crate::number::Small;
 use crate::part;
+use cells::cell::Made;
 use rows::kind::Kind;
 ghost use mathlib.Core.Path.{_≡_};
 ghost use mathlib.Core.List.{[], _∷_};

@@ -1,15 +1,15 @@
 // Lines of a report text, each read by its kind; a line is the bytes before its line feed.
-use cells::cell::Made;
-use cells::condition::Condition;
-use cells::condition::Side;
+use crate::field;
 use crate::field::ConstantAt;
 use crate::field::KindAt;
 use crate::field::NumberAt;
 use crate::field::OperatorAt;
 use crate::field::PairAt;
-use crate::field;
 use crate::number;
 use crate::part;
+use cells::cell::Made;
+use cells::condition::Condition;
+use cells::condition::Side;
 use rows::kind::Kind;
 ghost use mathlib.Core.Path.{_≡_};
 ghost use Rattle.text.specs.inner.Parts.{fieldsFrom};

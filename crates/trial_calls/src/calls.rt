@@ -1,11 +1,11 @@
 // One call of each exported routine, and its line: the name, the routine, the answer, and whether lent memory is as document 01 wants it.
-use crate::listed::Listed;
 use crate::listed;
+use crate::listed::Listed;
 use crate::memory;
 use engine::answer::Answer;
 use engine::direct::Found;
-use print::whole::Printed;
 use print::whole;
+use print::whole::Printed;
 ghost use Prim.Native.Nat.{_+_, _≤_};
 ghost use Rattle.cells.specs.Limits.{stepListRoom};
 

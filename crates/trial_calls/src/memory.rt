@@ -1,8 +1,8 @@
 // Lent memory: filled with a pattern before a call, and looked at behind it.
+use crate::listed::LIST;
 use cells::limits::ROWS;
 use cells::limits::STEPS;
 use cells::limits::TABLES;
-use crate::listed::LIST;
 use engine::answer::Answer;
 use vocabulary::step::Step;
 ghost use Prim.Native.Nat.{_+_, _≤_};

@@ -15,7 +15,6 @@ use Rattle.engine.specs.declared.answer.Answer.the-variants.{Refused, Ro
 use Rattle.engine.specs.declared.planned.Concluded.{Concluded}
 use Rattle.engine.specs.declared.planned.Reply.{Reply}
 use Rattle.engine.specs.Calls.{Lent, ReportCall}
-use Rattle.engine.specs.inner.Gave.{lentParts}
 
 -- a refusal, as it is answered beside a lent list
 unfoldable pub refusedReply : ℕ → Reply

@@ -20,7 +20,7 @@ use Rattle.engine.specs.declared.planned.Reply.{Reply}
 
 -- ---- question 1
 
--- whether enough is lent, by the lengths of the cell buffer, the work buffer, the result buffer and the step list
+-- whether enough is lent, by the lengths of the cell buffer, the work buffer, the result buffer and the step list. Specification 9.3
 unfoldable pub enoughLent : ℕ → ℕ → ℕ → ℕ → Bool
 enoughLent cells work result steps = (leb workRoom work && leb resultRoom result && leb cellRoom cells) && leb stepListRoom steps
 
@@ -37,7 +37,7 @@ pub record Ends (p : Prepared) (r : State) (w v v′ : List ℕ) (x : Concluded)
   pub rows : p .number ≡ 0 → (length (r .counts) ≡ areas)
       × ((a : Joined) × Ended (p .query) r w v v′ a × (x ≡ handedOver (p .query) (p .sets) (p .plan) (r .counts) a))
 
--- what is answered and these steps, as they are handed over by value
+-- what is answered and these steps, as they are handed over by value. Specification 10.9
 unfoldable pub byValue : Reply → List Step → Planned
 byValue r steps = record { answer = r .answer; facts = r .facts; plan = record { steps = steps; count = r .count } }
 

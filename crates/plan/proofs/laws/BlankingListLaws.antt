@@ -9,7 +9,7 @@ use lib.Dec.{T, eqb, ltb}
 use mir.Facts.{and-yes, eqb-yes, ltb-yes}
 use native.Mathlib.Omega.{arith}
 use Rattle.rows.specs.Lists.{_isIn_, all, any, has, range}
-use Rattle.rows.proofs.laws.ListLaws.{here, all-elim, any-elim, has-elim, range-intro, keep-elim, keep-intro, map-intro, map-elim, range-elim}
+use Rattle.rows.proofs.laws.ListLaws.{all-elim, any-elim, has-elim, range-intro, keep-elim, keep-intro, map-intro, map-elim, range-elim}
 use Rattle.rows.specs.Nullification.{Blanking}
 use Rattle.vocabulary.specs.Report.{tableCount, tableNumbers}
 use Rattle.plan.specs.Plan.{asks, Ground, missing, blankings}
@@ -23,16 +23,6 @@ asks-some s = some (s .1)
     some : (C : List ℕ) → T (elim C [ [] ↦ false | k ∷ D ↦ true ]) → C ≢ []
     some [] h e = h
     some (k ∷ C) h e = nil≢cons (sym e)
-
--- "where nothing is missing, only the empty list is such a list"
-pub none-missing : (g : Ground) (L : List (Blanking ℕ)) → BlankingList g L → ((t : ℕ) → t < tableCount (g .query) → missing g t ≡ []) → L ≡ []
-none-missing g [] x h = refl
-none-missing g (s ∷ L) x h = absurd (first (s .1) refl)
-  where
-    first : (C : List ℕ) → s .1 ≡ C → ⊥
-    first [] e = x .some s (here refl) e
-    first (c ∷ C) e = elim (subst (λ (l : List ℕ). c isIn l) (h (s .0) (x .table s (here refl)))
-        (x .only s (here refl) c (subst (λ (l : List ℕ). c isIn l) (sym e) (here refl)))) [ ]
 
 -- ---- the same as a test that computes
 

@@ -1,5 +1,5 @@
--- The room that the parts of the print take: bounds on their bytes, by which the code shows that it stays within the output.
--- Assumes nothing.
+-- The room that the parts of the print take: bounds on their bytes, by which the code shows that it stays within the output. Specification
+-- 10.12. Assumes nothing.
 use Prim.Native.Nat.{ℕ, _+_, _*_}
 use Rattle.cells.specs.Limits.{mostConditions, mostTables, mostRows, mostSteps}
 
@@ -39,6 +39,6 @@ rowRoom = 1 + mostTables * fieldRoom + 1
 abbrev pub refusalRoom : ℕ
 refusalRoom = 1 + fieldRoom + 1
 
--- the lines of an answer (`report-room` of RoomLaws); an output has more, `printRoom` of Limits
+-- the lines of an answer (`report-room` of RoomLaws); an output has more, `printRoom` of Limits. Specification 10.12
 abbrev pub reportRoom : ℕ
 reportRoom = tableRoom * mostTables + stepRoom * mostSteps + rowRoom * mostRows

@@ -1,4 +1,4 @@
--- The place and the reading behind lines that question 2 accepts, by the lines of each part. Assumes nothing.
+-- The place and the reading behind lines that question 2 accepts, by the lines of each part. Specification 9.4. Assumes nothing.
 use mathlib.Core.List.{List, [], _∷_}
 use mathlib.Core.Option.{none, some}
 use Rattle.text.specs.Lines.{Line}

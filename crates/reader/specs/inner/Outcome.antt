@@ -1,5 +1,5 @@
 -- What the reading of a text answers, by questions 2 to 4, and what it leaves in the cell buffer. For the function of src/read.rt.
--- Assumes nothing.
+-- Specification 9.4, 9.5, 9.6. Assumes nothing.
 use mathlib.Core.Path.{_≡_}
 use mathlib.Core.List.{List}
 use mathlib.Core.Option.{none, some, Option}
@@ -21,7 +21,7 @@ use Rattle.reader.specs.declared.read.ReadAnswer.{ReadAnswer}
 use Rattle.reader.specs.declared.read.ReadOutcome.{ReadOutcome}
 use Rattle.reader.specs.declared.read.ReadOutcome.the-variants as O
 
--- the number of the question that turned the text down, or the query that it says
+-- the number of the question that turned the text down, or the query that it says. Specification 9.1
 pub data TextOutcome : Type 0 where
   turnedDown : ℕ → TextOutcome
   says : StoredQuery → TextOutcome
@@ -34,7 +34,7 @@ outcomeIn O.Accepted q = says q
 abbrev pub answerIn : ReadAnswer → TextOutcome
 answerIn a = outcomeIn (a .outcome) (a .query)
 
--- what the tables are asked, of lines that stand in their places
+-- what the tables are asked, of lines that stand in their places. Specification 9.5, 9.6
 unfoldable pub linesOutcome : List Line → TextOutcome
 linesOutcome ls = elim (firstNo tableQuestions (reportOf ls)) [ some n ↦ turnedDown n | none ↦ says (storedOf (linesAfter start ls)) ]
 
@@ -42,7 +42,7 @@ unfoldable pub outcomeOf : Option (List Line) → TextOutcome
 outcomeOf none = turnedDown 2
 outcomeOf (some ls) = linesOutcome ls
 
--- the first of questions 2 to 4 that is answered no, or the query
+-- the first of questions 2 to 4 that is answered no, or the query. Specification 9.4, 9.5, 9.6
 unfoldable pub readOutcome : Bytes → TextOutcome
 readOutcome bs = outcomeOf (textLines bs)
 

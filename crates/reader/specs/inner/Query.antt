@@ -1,4 +1,5 @@
--- The query that a reading stands for, and question 3 on what the T and D lines left. For the functions of src/stored.rt. Assumes nothing.
+-- The query that a reading stands for, and question 3 on what the T and D lines left. For the functions of src/stored.rt. Specification
+-- 2.9, 2.10, 2.13. Assumes nothing.
 use mathlib.Core.Bool.{Bool, _&&_}
 use Prim.Native.Nat.{_-_}
 use lib.Dec.{leb}

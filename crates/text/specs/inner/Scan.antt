@@ -10,7 +10,7 @@ use Rattle.text.specs.inner.Digits.{digitsFrom}
 use Rattle.text.specs.declared.scan.CellAt.{CellAt}
 use Rattle.text.specs.declared.scan.CellAt.the-variants as A
 
--- the largest magnitude of a cell: "A cell is -2147483647 to 2147483647"
+-- the largest magnitude of a cell: "A cell is -2147483647 to 2147483647". Specification 3.1
 abbrev pub mostMagnitude : ℕ
 mostMagnitude = 2147483647
 

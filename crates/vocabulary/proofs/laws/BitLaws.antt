@@ -139,10 +139,6 @@ same-bits a b f = bits-same a b (λ k. same-test (hasBit a k) (hasBit b k) (f k 
 pub word-is : (w : ℕ) (C : List ℕ) → ((k : ℕ) → T (hasBit w k) ↔ k isIn C) → w ≡ bitsOf C
 word-is w C f = same-bits w (bitsOf C) (λ k. (λ h. bit-intro (f k .0 h), λ h. f k .1 (bit-elim C k h)))
 
--- a list's word is that of any list with the same elements
-pub same-word : (C D : List ℕ) → ((k : ℕ) → k isIn C ↔ k isIn D) → bitsOf C ≡ bitsOf D
-same-word C D f = word-is (bitsOf C) D (λ k. (λ h. f k .0 (bit-elim C k h), λ h. bit-intro (f k .1 h)))
-
 -- a bit above the width is not set
 pub has-above : (n a k : ℕ) → a < 2 ^ n → n ≤ k → hasBit a k ≡ false
 unfolding hasBit
