@@ -16,7 +16,7 @@ ghost use Rattle.text.specs.Print.{printRow, printRefusal};
 ghost use Rattle.print.specs.inner.Output.{Written};
 ghost use Rattle.print.specs.inner.Room.{reportRoom};
 ghost use Rattle.print.specs.inner.Rows.{resultRows};
-ghost use Rattle.print.specs.inner.Printed.{reportBytes, rowsFit, fitting, Fitting, printed, Prints};
+ghost use Rattle.print.specs.inner.Printed.{reportBytes, rowsFit, fitting, Fitting, printIf, Prints};
 
 // What a print answers: the number of its bytes; or that the output is shorter than PRINT_ROOM, or that the counts are not those of
 // an answer, and then nothing is written.
@@ -79,7 +79,7 @@ pub fn print_report(
     rows: usize,
 ) -> Printed
     ensures { λ r. ⌜ Prints
-        (printed
+        (printIf
         (fitting facts count rows (length (now (result .entry))))
         (reportBytes facts (take count steps) (resultRows (facts .tables) rows (now (result .entry))))
         (now (out .entry)))
@@ -99,7 +99,7 @@ pub fn print_report(
 // The print of an answer of the direct reading.
 pub fn print_direct(out: &mut [u8], result: &[u16], rows: usize, tables: usize) -> Printed
     ensures { λ r. ⌜ Prints
-        (printed
+        (printIf
         (rowsFit tables rows (length (now (result .entry))))
         (flatMap printRow (resultRows tables rows (now (result .entry))))
         (now (out .entry)))
@@ -118,7 +118,7 @@ pub fn print_direct(out: &mut [u8], result: &[u16], rows: usize, tables: usize) 
 
 // The print of a refusal.
 pub fn print_refusal(out: &mut [u8], number: u8) -> Printed
-    ensures { λ r. ⌜ Prints (printed true (printRefusal number) (now (out .entry))) r (now (out .exit)) ⌝ }
+    ensures { λ r. ⌜ Prints (printIf true (printRefusal number) (now (out .entry))) r (now (out .exit)) ⌝ }
 {
     if out.len() < PRINT_ROOM {
         return Printed::NoRoom;

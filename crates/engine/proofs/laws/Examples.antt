@@ -27,22 +27,22 @@ unfoldable pub linesIn : Bytes → List Line
 linesIn bs = elim (textLines bs) [ none ↦ [] | some ls ↦ ls ]
 
 -- document 01's report, and the same with its order changed: a product first
-unfoldable pub given : Bytes
-given = text "T|2 D|10|1 D|11|2 T|2 D|10|7 D|11|8 T|1 D|7 J|I|1|2 C|1|1|=|2|0 J|L|0|3 C|0|0|=|1|0 P|0|1 P|3|2"
+unfoldable pub givenText : Bytes
+givenText = text "T|2 D|10|1 D|11|2 T|2 D|10|7 D|11|8 T|1 D|7 J|I|1|2 C|1|1|=|2|0 J|L|0|3 C|0|0|=|1|0 P|0|1 P|3|2"
 
 unfoldable pub changed : Bytes
 changed = text "T|2 D|10|1 D|11|2 T|2 D|10|7 D|11|8 T|1 D|7 J|I|1|2 C|1|1|=|2|0 J|L|0|3 C|0|0|=|1|0 P|0|2 P|3|1"
 
 -- the engine's own list for it has one step, B|2|0|1. This list takes the conditions apart, in the other sequence, and one of them again
-unfoldable pub split : List (Blanking ℕ)
-split = (2, 1 ∷ []) ∷ (2, 0 ∷ []) ∷ (2, 1 ∷ 0 ∷ []) ∷ []
+unfoldable pub splitList : List (Blanking ℕ)
+splitList = (2, 1 ∷ []) ∷ (2, 0 ∷ []) ∷ (2, 1 ∷ 0 ∷ []) ∷ []
 
 engine-list : blankings (groundOf (queryOf (reportOf (linesIn changed)))) ≡ (2, 0 ∷ 1 ∷ []) ∷ []
 unfolding computing changed linesIn text notation
 engine-list = refl
 
-same-query : SameQuery given changed (linesIn given) (linesIn changed)
-unfolding computing given changed linesIn text notation queryLines isOrder
+same-query : SameQuery givenText changed (linesIn givenText) (linesIn changed)
+unfolding computing givenText changed linesIn text notation queryLines isOrder
 same-query = record {
   first-read = refl;
   second-read = refl;
@@ -52,21 +52,21 @@ same-query = record {
   order-admitted = refl;
 }
 
-split-allowed : BlankingList (groundOf (queryOf (reportOf (linesIn changed)))) split
-unfolding computing changed linesIn text notation isBlankingList split
-split-allowed = blanking-list (groundOf (queryOf (reportOf (linesIn changed)))) split tt
+split-allowed : BlankingList (groundOf (queryOf (reportOf (linesIn changed)))) splitList
+unfolding computing changed linesIn text notation isBlankingList splitList
+split-allowed = blanking-list (groundOf (queryOf (reportOf (linesIn changed)))) splitList tt
 
 -- by demand 3
-by-demand-3 : runRows (reportOf (linesIn changed)) split ≡ directRows (reportOf (linesIn given))
-by-demand-3 = demand-3 given changed (linesIn given) (linesIn changed) same-query split split-allowed
+by-demand-3 : runRows (reportOf (linesIn changed)) splitList ≡ directRows (reportOf (linesIn givenText))
+by-demand-3 = demand-3 givenText changed (linesIn givenText) (linesIn changed) same-query splitList split-allowed
 
 -- and computed: R|0|0|0 and R|1|-|-
-run-computed : runRows (reportOf (linesIn changed)) split ≡ (0 ∷ 0 ∷ 0 ∷ []) ∷ (1 ∷ 65535 ∷ 65535 ∷ []) ∷ []
-unfolding computing changed linesIn text notation split
+run-computed : runRows (reportOf (linesIn changed)) splitList ≡ (0 ∷ 0 ∷ 0 ∷ []) ∷ (1 ∷ 65535 ∷ 65535 ∷ []) ∷ []
+unfolding computing changed linesIn text notation splitList
 run-computed = refl
 
-direct-computed : directRows (reportOf (linesIn given)) ≡ (0 ∷ 0 ∷ 0 ∷ []) ∷ (1 ∷ 65535 ∷ 65535 ∷ []) ∷ []
-unfolding computing given linesIn text notation
+direct-computed : directRows (reportOf (linesIn givenText)) ≡ (0 ∷ 0 ∷ 0 ∷ []) ∷ (1 ∷ 65535 ∷ 65535 ∷ []) ∷ []
+unfolding computing givenText linesIn text notation
 direct-computed = refl
 
 -- ---- why question 8 is asked

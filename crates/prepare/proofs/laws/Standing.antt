@@ -26,7 +26,7 @@ use Rattle.text.specs.Lines.{Line}
 use Rattle.text.proofs.laws.ReadingLaws.{earlyRows, no-early-row, read-report}
 use Rattle.text.specs.Reading.{tablesIn, textLines, reportOf, readReport}
 use Rattle.reader.specs.inner.CellBuffer.{Begins}
-use Rattle.reader.proofs.laws.FlatCells.{flatRows, flatTables, text-cells}
+use Rattle.reader.proofs.laws.FlatCells.{flatCells, flatTables, text-cells}
 use Rattle.reader.specs.inner.Query.{storedOf}
 use Rattle.reader.proofs.laws.QueryLaws.{done, stored-tables, stored-numbered}
 use Rattle.reader.specs.inner.Outcome.{TextOutcome, turnedDown, says, readOutcome, outcomeOf, linesOutcome, CellsAfter}
@@ -93,7 +93,7 @@ module _ (bs : Bytes) (ls : List Line) (read : textLines bs ≡ some ls) (yes : 
   tables-length : (xs : List Table) → length (flatTables xs) ≡ cellsInTables xs
   unfolding flatTables cellsInTables
   tables-length [] = refl
-  tables-length (t ∷ xs) = length-append (flatRows (t .rows)) (flatTables xs) ∙ ap₂ _+_ (flat-length (t .rows)) (tables-length xs)
+  tables-length (t ∷ xs) = length-append (flatCells (t .rows)) (flatTables xs) ∙ ap₂ _+_ (flat-length (t .rows)) (tables-length xs)
 
   run-left : (before after : List ℤ) → CellsAfter bs before after → cellRoom ≤ length before
       → after ≡ flatTables ts ++ drop (length (flatTables ts)) after

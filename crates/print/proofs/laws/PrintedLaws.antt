@@ -13,7 +13,7 @@ use Rattle.vocabulary.specs.declared.facts.Facts.{Facts}
 use Rattle.text.specs.Bytes.{Bytes}
 use Rattle.print.specs.inner.Output.{Written}
 use Rattle.print.proofs.laws.OutputLaws.{written-whole}
-use Rattle.print.specs.inner.Printed.{rowsFit, RowsFit, fitting, Fitting, printed, Prints}
+use Rattle.print.specs.inner.Printed.{rowsFit, RowsFit, fitting, Fitting, printIf, Prints}
 use Rattle.print.specs.declared.whole.Printed.the-variants.{Bytes as Wrote, NoRoom, Unfit}
 
 -- ---- the tests of the counts
@@ -67,21 +67,21 @@ module _ (f : Facts) (steps rows numbers : ℕ) where
 -- ---- the print
 
 module _ (fit : Bool) (b : Bytes) {w : List ℕ} where
-  pub prints-no-room : length w < printRoom → Prints (printed fit b w) NoRoom w
-  unfolding printed
+  pub prints-no-room : length w < printRoom → Prints (printIf fit b w) NoRoom w
+  unfolding printIf
   prints-no-room h =
       let e : ltb (length w) printRoom ≡ true = lt-ltb (length w) printRoom h in
       record { answer = rw e; output = rw e }
 
-  pub prints-unfit : printRoom ≤ length w → fit ≡ false → Prints (printed fit b w) Unfit w
-  unfolding printed
+  pub prints-unfit : printRoom ≤ length w → fit ≡ false → Prints (printIf fit b w) Unfit w
+  unfolding printIf
   prints-unfit h f =
       let e : ltb (length w) printRoom ≡ false = le-ltb (length w) printRoom h in
       record { answer = rw (e, f); output = rw (e, f) }
 
   pub prints-bytes : {room : ℕ} {w′ : List ℕ} {r : ℕ} → printRoom ≤ length w → fit ≡ true → room ≤ printRoom
-      → Written w 0 b room w′ r → Prints (printed fit b w) (Wrote r) w′
-  unfolding printed
+      → Written w 0 b room w′ r → Prints (printIf fit b w) (Wrote r) w′
+  unfolding printIf
   prints-bytes {r} h f m p =
       let e : ltb (length w) printRoom ≡ false = le-ltb (length w) printRoom h in
       let n : r ≡ length b = omega (arith, p .next) in
@@ -93,6 +93,6 @@ module _ (fit : Bool) (b : Bytes) {w : List ℕ} where
 
 -- what a caller with room and with an answer's counts gets
 pub printed-bytes : (fit : Bool) (b : Bytes) (w : List ℕ) → printRoom ≤ length w → fit ≡ true
-    → printed fit b w ≡ record { answer = Wrote (length b); output = b ++ drop (length b) w }
-unfolding printed
+    → printIf fit b w ≡ record { answer = Wrote (length b); output = b ++ drop (length b) w }
+unfolding printIf
 printed-bytes fit b w h f = rw (le-ltb (length w) printRoom h, f)

@@ -46,8 +46,8 @@ pub record Print : Type 0 where
 
 -- a print into an output: the number of its bytes, and the output with the bytes at its front and behind them what stood there.
 -- No change where the output is too short, or the counts are not those of an answer. Specification 10.12, 10.13
-unfoldable pub printed : Bool → Bytes → List ℕ → Print
-printed fit b out =
+unfoldable pub printIf : Bool → Bytes → List ℕ → Print
+printIf fit b out =
     if ltb (length out) printRoom then record { answer = NoRoom; output = out }
     else if fit then record { answer = Wrote (length b); output = b ++ drop (length b) out }
     else record { answer = Unfit; output = out }

@@ -69,8 +69,8 @@ fits-kept t (rowLine zs ∷ ls) =
 -- ---- 3: the cells
 
 -- the cells that lines write
-abbrev pub Written : List TableLine → ℕ
-Written ls = cellsInRows (firstRows ls) + cellsInTables (tablesOf ls)
+abbrev pub cellsWritten : List TableLine → ℕ
+cellsWritten ls = cellsInRows (firstRows ls) + cellsInTables (tablesOf ls)
 
 pub cells-within : (c n : ℕ) → c + n ≤ mostCells → cellsAfter c n ≡ c + n
 unfolding cellsAfter
@@ -91,13 +91,13 @@ cells-step c n m = go (leb n mostCells) refl (leb c mostCells) refl
         let h : mostCells < n = leb-false n mostCells e in
         rw (e, lt-leb ((mostCells + 1) + m) mostCells (omega arith), lt-leb (c + (n + m)) mostCells (omega arith))
 
-pub cells-kept : (t : Tables) (ls : List TableLine) → leb ((tablesAfter t ls) .cells) mostCells ≡ leb (t .cells + Written ls) mostCells
+pub cells-kept : (t : Tables) (ls : List TableLine) → leb ((tablesAfter t ls) .cells) mostCells ≡ leb (t .cells + cellsWritten ls) mostCells
 unfolding tablesAfter firstRows tablesOf afterTable afterRow cellsInRows cellsInTables
 cells-kept t [] = rw (add-zero (t .cells))
-cells-kept t (tableLine n ∷ ls) = cells-kept (afterTable t n) ls ∙ rw (zero-add (Written ls))
+cells-kept t (tableLine n ∷ ls) = cells-kept (afterTable t n) ls ∙ rw (zero-add (cellsWritten ls))
 cells-kept t (rowLine zs ∷ ls) =
-    let e : length zs + cellsInRows (firstRows ls) + cellsInTables (tablesOf ls) ≡ length zs + Written ls = omega arith in
-    cells-kept (afterRow t (length zs)) ls ∙ cells-step (t .cells) (length zs) (Written ls) ∙ rw e
+    let e : length zs + cellsInRows (firstRows ls) + cellsInTables (tablesOf ls) ≡ length zs + cellsWritten ls = omega arith in
+    cells-kept (afterRow t (length zs)) ls ∙ cells-step (t .cells) (length zs) (cellsWritten ls) ∙ rw e
 
 -- ---- where each table's cells begin
 
@@ -106,7 +106,7 @@ unfoldable pub offsetsFrom : ℕ → List Table → List ℕ
 offsetsFrom o [] = []
 offsetsFrom o (t ∷ ts) = o ∷ offsetsFrom (o + cellsInRows (t .rows)) ts
 
-pub offsets-kept : (t : Tables) (ls : List TableLine) → t .cells + Written ls ≤ mostCells
+pub offsets-kept : (t : Tables) (ls : List TableLine) → t .cells + cellsWritten ls ≤ mostCells
     → (tablesAfter t ls) .layout .offsets
     ≡ sets (t .layout .offsets) (t .count) (offsetsFrom (t .cells + cellsInRows (firstRows ls)) (tablesOf ls))
 unfolding tablesAfter firstRows tablesOf afterTable afterRow closedRows openedTable cellsInRows cellsInTables offsetsFrom

@@ -36,20 +36,20 @@ cellsOfLines [] = []
 cellsOfLines (x ∷ ls) = cellsOfLine x ++ cellsOfLines ls
 
 -- rows and tables, cell after cell
-unfoldable pub flatRows : List (List ℤ) → List ℤ
-flatRows [] = []
-flatRows (zs ∷ rows) = zs ++ flatRows rows
+unfoldable pub flatCells : List (List ℤ) → List ℤ
+flatCells [] = []
+flatCells (zs ∷ rows) = zs ++ flatCells rows
 
 unfoldable pub flatTables : List Table → List ℤ
 flatTables [] = []
-flatTables (t ∷ ts) = flatRows (t .rows) ++ flatTables ts
+flatTables (t ∷ ts) = flatCells (t .rows) ++ flatTables ts
 
-pub lines-flat : (ls : List TableLine) → cellsOfLines ls ≡ flatRows (firstRows ls) ++ flatTables (tablesOf ls)
-unfolding cellsOfLines cellsOfLine firstRows tablesOf flatRows flatTables
+pub lines-flat : (ls : List TableLine) → cellsOfLines ls ≡ flatCells (firstRows ls) ++ flatTables (tablesOf ls)
+unfolding cellsOfLines cellsOfLine firstRows tablesOf flatCells flatTables
 lines-flat [] = refl
 lines-flat (tableLine n ∷ ls) = lines-flat ls
 lines-flat (rowLine zs ∷ ls) =
-    ap (λ (l : List ℤ). zs ++ l) (lines-flat ls) ∙ sym (append-assoc zs (flatRows (firstRows ls)) (flatTables (tablesOf ls)))
+    ap (λ (l : List ℤ). zs ++ l) (lines-flat ls) ∙ sym (append-assoc zs (flatCells (firstRows ls)) (flatTables (tablesOf ls)))
 
 -- ---- a line that is no D line writes nothing
 
@@ -213,7 +213,7 @@ all-cells (l ∷ ls) xs e = go (λ ys k. all-cells ls ys k) (lineOf l) refl (rea
 
 -- of a text that question 2 accepts: the cells of its tables, one after the other
 pub text-cells : (bs : Bytes) (ls : List Line) → textLines bs ≡ some ls → textCells bs ≡ flatTables (tablesIn ls)
-unfolding linesOf textCells flatRows
+unfolding linesOf textCells flatCells
 text-cells bs ls e =
     go (closed (split lineFeed bs)) refl (text-lines bs ls e .0) ∙ lines-flat (tableLines ls) ∙ rw (no-early-row bs ls e)
   where

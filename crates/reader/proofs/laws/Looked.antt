@@ -23,12 +23,12 @@ use Rattle.text.specs.LineParts.{tableLines}
 use Rattle.text.proofs.laws.ReadingLaws.{earlyRows}
 use Rattle.text.specs.Reading.{tablesIn}
 use Rattle.text.specs.TableQuestions.{cellsInRows, cellsInTables}
-use Rattle.reader.proofs.laws.FlatCells.{flatRows, flatTables}
+use Rattle.reader.proofs.laws.FlatCells.{flatCells, flatTables}
 use Rattle.reader.specs.inner.State.{noTables, closedRows}
 use Rattle.reader.specs.inner.Survey.{start}
 use Rattle.reader.specs.inner.Agrees.{linesAfter}
 use Rattle.reader.proofs.laws.KeptLaws.{columns-kept, rows-kept}
-use Rattle.reader.proofs.laws.Counts.{offsetsFrom, Written, offsets-kept}
+use Rattle.reader.proofs.laws.Counts.{offsetsFrom, cellsWritten, offsets-kept}
 use Rattle.reader.proofs.laws.QueryLaws.{sets-take, done}
 use Rattle.reader.specs.inner.Query.{storedOf}
 
@@ -52,28 +52,28 @@ row-width w (zs ∷ rows) (suc row) h k = row-width w rows row (wide-rest w zs r
 
 -- the cell at a row and a column of rows laid one after the other
 row-at : (w : ℕ) (rows : List (List ℤ)) (more : List ℤ) (row column : ℕ) → Wide w rows → row < length rows → column < w
-    → getD (flatRows rows ++ more) (row * w + column) blankCell ≡ getD (getD rows row []) column blankCell
-unfolding flatRows
+    → getD (flatCells rows ++ more) (row * w + column) blankCell ≡ getD (getD rows row []) column blankCell
+unfolding flatCells
 row-at w [] more row column h k l = absurd (omega arith)
 row-at w (zs ∷ rows) more zero column h k l =
     let n : length zs ≡ w = wide-first w zs rows h in
-    rw (zero-mul w, zero-add column, append-assoc zs (flatRows rows) more)
-    (List·getD-append zs (flatRows rows ++ more) blankCell column (omega arith))
+    rw (zero-mul w, zero-add column, append-assoc zs (flatCells rows) more)
+    (List·getD-append zs (flatCells rows ++ more) blankCell column (omega arith))
 row-at w (zs ∷ rows) more (suc row) column h k l =
     let n : length zs ≡ w = wide-first w zs rows h in
     let m : suc row * w + column ≡ length zs + (row * w + column) =
     ap (λ (x : ℕ). x + column) (suc-mul row w) ∙ omega arith in
-    rw (m, append-assoc zs (flatRows rows) more)
-    (getD-append-add zs (flatRows rows ++ more) (row * w + column) blankCell
+    rw (m, append-assoc zs (flatCells rows) more)
+    (getD-append-add zs (flatCells rows ++ more) (row * w + column) blankCell
     ∙ row-at w rows more row column (wide-rest w zs rows h) (omega arith) l)
 
 pub own-cell : (w : ℕ) (rows : List (List ℤ)) (more : List ℤ) (row column : ℕ) → Wide w rows
-    → ownCell (flatRows rows ++ more) (length rows) w row column ≡ getD (getD rows row []) column blankCell
+    → ownCell (flatCells rows ++ more) (length rows) w row column ≡ getD (getD rows row []) column blankCell
 unfolding ownCell
 own-cell w rows more row column h = go (ltb row (length rows)) refl (ltb column w) refl
   where
     go : (s : Bool) → ltb row (length rows) ≡ s → (t : Bool) → ltb column w ≡ t
-        → ownCell (flatRows rows ++ more) (length rows) w row column ≡ getD (getD rows row []) column blankCell
+        → ownCell (flatCells rows ++ more) (length rows) w row column ≡ getD (getD rows row []) column blankCell
     go true e true g =
         rw (e, g) (row-at w rows more row column h (ltb-true row (length rows) e) (ltb-true column w g))
     go true e false g =
@@ -85,29 +85,29 @@ own-cell w rows more row column h = go (ltb row (length rows)) refl (ltb column 
 
 -- ---- a table's own cells begin at its offset
 
-pub flat-length : (rows : List (List ℤ)) → length (flatRows rows) ≡ cellsInRows rows
-unfolding flatRows cellsInRows
+pub flat-length : (rows : List (List ℤ)) → length (flatCells rows) ≡ cellsInRows rows
+unfolding flatCells cellsInRows
 flat-length [] = refl
-flat-length (zs ∷ rows) = length-append zs (flatRows rows) ∙ ap (λ (n : ℕ). length zs + n) (flat-length rows)
+flat-length (zs ∷ rows) = length-append zs (flatCells rows) ∙ ap (λ (n : ℕ). length zs + n) (flat-length rows)
 
 unfoldable pub noTable : Table
 noTable = record { columns = 0; rows = [] }
 
 pub own-cells : (before : List ℤ) (ts : List Table) (more : List ℤ) (t : ℕ) → t < length ts
-    → (rest : List ℤ) × (drop (getD (offsetsFrom (length before) ts) t 0) (before ++ (flatTables ts ++ more)) ≡ flatRows ((getD ts t noTable) .rows) ++ rest)
+    → (rest : List ℤ) × (drop (getD (offsetsFrom (length before) ts) t 0) (before ++ (flatTables ts ++ more)) ≡ flatCells ((getD ts t noTable) .rows) ++ rest)
 unfolding offsetsFrom flatTables
 own-cells before [] more t h = absurd (omega arith)
 own-cells before (x ∷ ts) more zero h = (
   flatTables ts ++ more,
-  drop-append-seam before ((flatRows (x .rows) ++ flatTables ts) ++ more) ∙ append-assoc (flatRows (x .rows)) (flatTables ts) more,
+  drop-append-seam before ((flatCells (x .rows) ++ flatTables ts) ++ more) ∙ append-assoc (flatCells (x .rows)) (flatTables ts) more,
 )
 own-cells before (x ∷ ts) more (suc t) h =
-    let r = own-cells (before ++ flatRows (x .rows)) ts more t (omega arith) in
-    let n : length (before ++ flatRows (x .rows)) ≡ length before + cellsInRows (x .rows) =
-    length-append before (flatRows (x .rows)) ∙ ap (λ (k : ℕ). length before + k) (flat-length (x .rows)) in
-    let a : before ++ ((flatRows (x .rows) ++ flatTables ts) ++ more) ≡ (before ++ flatRows (x .rows)) ++ (flatTables ts ++ more) =
-    ap (λ (l : List ℤ). before ++ l) (append-assoc (flatRows (x .rows)) (flatTables ts) more)
-    ∙ sym (append-assoc before (flatRows (x .rows)) (flatTables ts ++ more)) in
+    let r = own-cells (before ++ flatCells (x .rows)) ts more t (omega arith) in
+    let n : length (before ++ flatCells (x .rows)) ≡ length before + cellsInRows (x .rows) =
+    length-append before (flatCells (x .rows)) ∙ ap (λ (k : ℕ). length before + k) (flat-length (x .rows)) in
+    let a : before ++ ((flatCells (x .rows) ++ flatTables ts) ++ more) ≡ (before ++ flatCells (x .rows)) ++ (flatTables ts ++ more) =
+    ap (λ (l : List ℤ). before ++ l) (append-assoc (flatCells (x .rows)) (flatTables ts) more)
+    ∙ sym (append-assoc before (flatCells (x .rows)) (flatTables ts ++ more)) in
     (r .0, rw (a, ← n) (r .1))
 
 -- ---- the layout that a text leaves
@@ -135,7 +135,7 @@ module _ (ls : List Line) (early : earlyRows ls ≡ []) (fits : length (tablesIn
   offset-at : getD (layout .offsets) t 0 ≡ getD (offsetsFrom 0 ts) t 0
   unfolding storedOf closedRows linesAfter start noTables cellsInRows
   offset-at =
-      let w : noTables .cells + Written (tableLines ls) ≤ mostCells = rw (early) (omega arith) in
+      let w : noTables .cells + cellsWritten (tableLines ls) ≤ mostCells = rw (early) (omega arith) in
       let n : length (offsetsFrom 0 ts) ≡ length ts = offsets-length 0 ts in
       ap (λ (x : List ℕ). getD x t 0) (offsets-kept noTables (tableLines ls) w)
       ∙ rw early (sets-at (replicate mostTables 0) (offsetsFrom 0 ts) t 0 (omega arith) (omega arith))

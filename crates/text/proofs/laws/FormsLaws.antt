@@ -48,35 +48,35 @@ module _ {A B : Type 0} (m : Form A) (f : A → Form B) (fs : List Bytes) where
   then-none e = ap (handed f) e ∙ sym (then-handed m f fs)
 
 -- two number fields, and then a form
-unfoldable pub paired : {B : Type 0} → (ℕ → ℕ → Form B) → Option ((ℕ × ℕ) × List Bytes) → Option (B × List Bytes)
-paired f none = none
-paired f (some r) = f (r .0 .0) (r .0 .1) (r .1)
+unfoldable pub pairGiven : {B : Type 0} → (ℕ → ℕ → Form B) → Option ((ℕ × ℕ) × List Bytes) → Option (B × List Bytes)
+pairGiven f none = none
+pairGiven f (some r) = f (r .0 .0) (r .0 .1) (r .1)
 
 module _ {B : Type 0} (f : ℕ → ℕ → Form B) (fs : List Bytes) where
   abbrev after : Form B
   after = numberField >>= λ a. numberField >>= λ b. f a b
 
-  second-paired : (a : ℕ) (o : Option (ℕ × List Bytes)) → handed (λ b. f a b) o ≡ paired f (secondOf a o)
-  unfolding handed paired secondOf
+  second-paired : (a : ℕ) (o : Option (ℕ × List Bytes)) → handed (λ b. f a b) o ≡ pairGiven f (secondOf a o)
+  unfolding handed pairGiven secondOf
   second-paired a none = refl
   second-paired a (some r) = refl
 
-  both-paired : (o : Option (ℕ × List Bytes)) → handed (λ a. numberField >>= λ b. f a b) o ≡ paired f (bothOf o)
-  unfolding handed paired bothOf
+  both-paired : (o : Option (ℕ × List Bytes)) → handed (λ a. numberField >>= λ b. f a b) o ≡ pairGiven f (bothOf o)
+  unfolding handed pairGiven bothOf
   both-paired none = refl
   both-paired (some r) = then-handed numberField (λ b. f (r .0) b) (r .1) ∙ second-paired (r .0) (numberField (r .1))
 
-  after-paired : paired f (pairField fs) ≡ after fs
+  after-paired : pairGiven f (pairField fs) ≡ after fs
   unfolding pairField
   after-paired = sym (then-handed numberField (λ a. numberField >>= λ b. f a b) fs ∙ both-paired (numberField fs))
 
   pub pair-some : {a b : ℕ} {gs : List Bytes} → some ((a, b), gs) ≡ pairField fs → f a b gs ≡ after fs
-  unfolding paired
-  pair-some e = ap (paired f) e ∙ after-paired
+  unfolding pairGiven
+  pair-some e = ap (pairGiven f) e ∙ after-paired
 
   pub pair-none : none ≡ pairField fs → none ≡ after fs
-  unfolding paired
-  pair-none e = ap (paired f) e ∙ after-paired
+  unfolding pairGiven
+  pair-none e = ap (pairGiven f) e ∙ after-paired
 
 -- ---- the end of a line
 

@@ -19,7 +19,7 @@ use Rattle.cells.proofs.Lists.{tail-part}
 use Rattle.text.specs.Bytes.{Bytes, sameBytes, bytes}
 use Rattle.text.specs.Numbers.{ifMade, positive, negative, number, constant, natural, cell}
 use Rattle.text.specs.inner.Digits.{atMost}
-use Rattle.text.specs.inner.Ranges.{ranged}
+use Rattle.text.specs.inner.Ranges.{withinRange}
 
 pub made-none : none ≡ ifMade OutOfRange
 unfolding ifMade
@@ -36,22 +36,22 @@ found limit (some w) v e = go (leb w limit) e
     go false e = absurd (let z : _≡_ {A = ℕ} 0 1 = cc in omega arith)
 
 module _ (o : Option ℕ) where
-  pub positive-found : (v : ℕ) → some v ≡ atMost 4294967295 o → ifMade (cellOf (pos v)) ≡ ranged (positive o)
-  unfolding ranged positive
+  pub positive-found : (v : ℕ) → some v ≡ atMost 4294967295 o → ifMade (cellOf (pos v)) ≡ withinRange (positive o)
+  unfolding withinRange positive
   positive-found v e = rw (found 4294967295 o v e)
 
-  pub negative-zero : (v : ℕ) → some v ≡ atMost 4294967295 o → v ≡ 0 → none ≡ ranged (negative o)
-  unfolding ranged negative
+  pub negative-zero : (v : ℕ) → some v ≡ atMost 4294967295 o → v ≡ 0 → none ≡ withinRange (negative o)
+  unfolding withinRange negative
   negative-zero v e h = rw (found 4294967295 o v e, h)
 
-  pub negative-found : (v : ℕ) → some v ≡ atMost 4294967295 o → (v ≡ 0 → ⊥) → ifMade (cellOf (negℤ (pos v))) ≡ ranged (negative o)
-  unfolding ranged negative
+  pub negative-found : (v : ℕ) → some v ≡ atMost 4294967295 o → (v ≡ 0 → ⊥) → ifMade (cellOf (negℤ (pos v))) ≡ withinRange (negative o)
+  unfolding withinRange negative
   negative-found zero e h = absurd (h refl)
   negative-found (suc n) e h = rw (found 4294967295 o (suc n) e)
 
 -- no number, or one that no cell has
-pub positive-none : (o : Option ℕ) → none ≡ atMost 4294967295 o → none ≡ ranged (positive o)
-unfolding ranged positive atMost
+pub positive-none : (o : Option ℕ) → none ≡ atMost 4294967295 o → none ≡ withinRange (positive o)
+unfolding withinRange positive atMost
 positive-none none e = refl
 positive-none (some v) e = go (leb v 4294967295) refl e
   where
@@ -61,8 +61,8 @@ positive-none (some v) e = go (leb v 4294967295) refl e
         let h : 4294967295 < v = leb-false v 4294967295 l in
         made-none ∙ ap ifMade (sym (positive-outside v (omega arith)))
 
-pub negative-none : (o : Option ℕ) → none ≡ atMost 4294967295 o → none ≡ ranged (negative o)
-unfolding ranged negative atMost
+pub negative-none : (o : Option ℕ) → none ≡ atMost 4294967295 o → none ≡ withinRange (negative o)
+unfolding withinRange negative atMost
 negative-none none e = refl
 negative-none (some zero) e = refl
 negative-none (some (suc n)) e = go (leb (suc n) 4294967295) refl e
@@ -75,12 +75,12 @@ negative-none (some (suc n)) e = go (leb (suc n) 4294967295) refl e
 
 -- ---- a field, by its first byte
 
-ranged-is : (o : Option ℤ) → elim o [ none ↦ none | some z ↦ ifMade (cellOf z) ] ≡ ranged o
-unfolding ranged
+ranged-is : (o : Option ℤ) → elim o [ none ↦ none | some z ↦ ifMade (cellOf z) ] ≡ withinRange o
+unfolding withinRange
 ranged-is none = refl
 ranged-is (some z) = refl
 
-pub constant-is : (f : Bytes) → constant f ≡ ranged (number f)
+pub constant-is : (f : Bytes) → constant f ≡ withinRange (number f)
 unfolding constant
 constant-is f = ranged-is (number f)
 
@@ -95,16 +95,16 @@ number-minus [] n e = absurd (n refl)
 number-minus (b ∷ f) n e = rw (eq-eqb b 45 e, tail-part 1 (b ∷ f))
 
 pub constant-minus : (f : Bytes) → (length f ≡ 0 → ⊥) → getD f 0 0 ≡ 45
-    → ranged (negative (natural (take (length f - 1) (drop 1 f)))) ≡ constant f
-constant-minus f n e = sym (constant-is f ∙ ap ranged (number-minus f n e))
+    → withinRange (negative (natural (take (length f - 1) (drop 1 f)))) ≡ constant f
+constant-minus f n e = sym (constant-is f ∙ ap withinRange (number-minus f n e))
 
 number-plain : (f : Bytes) → (length f ≡ 0 → ⊥) → (getD f 0 0 ≡ 45 → ⊥) → number f ≡ positive (natural f)
 unfolding number
 number-plain [] n e = absurd (n refl)
 number-plain (b ∷ f) n e = rw (ne-eqb b 45 e)
 
-pub constant-plain : (f : Bytes) → (length f ≡ 0 → ⊥) → (getD f 0 0 ≡ 45 → ⊥) → ranged (positive (natural f)) ≡ constant f
-constant-plain f n e = sym (constant-is f ∙ ap ranged (number-plain f n e))
+pub constant-plain : (f : Bytes) → (length f ≡ 0 → ⊥) → (getD f 0 0 ≡ 45 → ⊥) → withinRange (positive (natural f)) ≡ constant f
+constant-plain f n e = sym (constant-is f ∙ ap withinRange (number-plain f n e))
 
 -- ---- words of one and of two bytes
 
@@ -169,8 +169,8 @@ made-fits (negsuc a) z e = go (leb a 2147483646) refl
         let h : 2147483646 < a = leb-false a 2147483646 l in
         absurd (outside-none e (negative-outside (suc a) (omega arith)))
 
-ranged-fits : (o : Option ℤ) (z : ℤ) → some z ≡ ranged o → mag z < 2147483648
-unfolding ranged
+ranged-fits : (o : Option ℤ) (z : ℤ) → some z ≡ withinRange o → mag z < 2147483648
+unfolding withinRange
 ranged-fits none z e = absurd (let k : _≡_ {A = ℕ} 0 1 = cc in omega arith)
 ranged-fits (some w) z e = made-fits w z e
 

@@ -20,7 +20,7 @@ use Rattle.text.specs.Bytes.{Bytes}
 use Rattle.text.specs.Numbers.{natural, positive, ifMade, cell, negative, number, digit, decimal, valueOf, constant}
 use Rattle.text.specs.inner.Digits.{nextValue, digitsFrom}
 use Rattle.text.proofs.laws.DigitsLaws.{number-same, number-digits, digits-more}
-use Rattle.text.specs.inner.Ranges.{ranged}
+use Rattle.text.specs.inner.Ranges.{withinRange}
 use Rattle.text.proofs.laws.RangesLaws.{found, constant-plain, cell-other, constant-is, cell-long, cell-blank}
 use Rattle.text.specs.inner.Scan.{bytesBetween, mostMagnitude, DigitsStand, CellFound}
 
@@ -101,19 +101,19 @@ module _ (b v : ℕ) (f : Bytes) (l : 48 < b) (m : b ≤ 57) (d : digitsFrom mos
       (sym (sym (number-same mostMagnitude (b ∷ f)) ∙ number-digits mostMagnitude (b ∷ f) (λ e. omega arith) n ∙ g ∙ d))
 
   cell-digits : some (pos v) ≡ cell (b ∷ f)
-  unfolding ranged positive ifMade
+  unfolding withinRange positive ifMade
   cell-digits =
       let n : b ≡ 45 → ⊥ = λ e. omega arith in
-      let r : ranged (positive (natural (b ∷ f))) ≡ some (pos v) = rw (natural-digits, positive-within v h) in
+      let r : withinRange (positive (natural (b ∷ f))) ≡ some (pos v) = rw (natural-digits, positive-within v h) in
       sym r ∙ constant-plain (b ∷ f) (λ e. omega arith) n ∙ cell-other (b ∷ f) n
 
 -- the same behind a minus sign; "no -0" is the first digit
 cell-minus : (b v : ℕ) (f : Bytes) → 48 < b → b ≤ 57 → digitsFrom mostMagnitude (b - 48) f ≡ some v → v ≤ mostMagnitude → 0 < v
     → some (negℤ (pos v)) ≡ cell (45 ∷ b ∷ f)
-unfolding number ranged negative ifMade
+unfolding number withinRange negative ifMade
 cell-minus b zero f l m d h p = absurd (omega arith)
 cell-minus b (suc n) f l m d h p =
-    let r : ranged (negative (natural (b ∷ f))) ≡ some (negsuc n) =
+    let r : withinRange (negative (natural (b ∷ f))) ≡ some (negsuc n) =
     rw (natural-digits b (suc n) f l m d h, negative-within (suc n) h) in
     sym r ∙ sym (constant-is (45 ∷ b ∷ f)) ∙ cell-long (45 ∷ b ∷ f) (λ e. omega arith)
 

@@ -20,7 +20,7 @@ use Rattle.rows.proofs.laws.ListLaws.{drop-take}
 use Rattle.text.specs.Bytes.{Bytes, sameBytes, bytes, tab, lineFeed}
 use Rattle.text.specs.Numbers.{digit, decimal, valueOf, natural, positive, negative, number, constant, cell}
 use Rattle.text.proofs.laws.DigitsLaws.{decimal-digits}
-use Rattle.text.specs.inner.Ranges.{ranged}
+use Rattle.text.specs.inner.Ranges.{withinRange}
 use Rattle.text.proofs.laws.RangesLaws.{constant-is, cell-fits}
 use Rattle.text.specs.Lines.{readAll, lineOf}
 use Rattle.text.specs.inner.Parts.{until, fieldsFrom}
@@ -54,22 +54,22 @@ natural-bytes f v e = go (decimal f) refl e
     go false q e = clash cc
 
 -- what has a cell is a number
-positive-some : (o : Option ℕ) (z : ℤ) → some z ≡ ranged (positive o) → (v : ℕ) × (o ≡ some v)
-unfolding ranged positive
+positive-some : (o : Option ℕ) (z : ℤ) → some z ≡ withinRange (positive o) → (v : ℕ) × (o ≡ some v)
+unfolding withinRange positive
 positive-some none z e = clash cc
 positive-some (some v) z e = (v, refl)
 
-negative-some : (o : Option ℕ) (z : ℤ) → some z ≡ ranged (negative o) → (v : ℕ) × (o ≡ some v)
-unfolding ranged negative
+negative-some : (o : Option ℕ) (z : ℤ) → some z ≡ withinRange (negative o) → (v : ℕ) × (o ≡ some v)
+unfolding withinRange negative
 negative-some none z e = clash cc
 negative-some (some v) z e = (v, refl)
 
-number-bytes : (f : Bytes) (z : ℤ) → some z ≡ ranged (number f) → all (leb 45) f ≡ true
+number-bytes : (f : Bytes) (z : ℤ) → some z ≡ withinRange (number f) → all (leb 45) f ≡ true
 unfolding number all
 number-bytes [] z e = refl
 number-bytes (b ∷ f) z e = go (eqb b 45) refl e
   where
-    go : (t : Bool) → eqb b 45 ≡ t → some z ≡ ranged (if t then negative (natural f) else positive (natural (b ∷ f)))
+    go : (t : Bool) → eqb b 45 ≡ t → some z ≡ withinRange (if t then negative (natural f) else positive (natural (b ∷ f)))
         → (leb 45 b && all (leb 45) f) ≡ true
     go true q e =
         let (v, n) = negative-some (natural f) z e in

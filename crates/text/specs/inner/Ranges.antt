@@ -5,6 +5,6 @@ use Rattle.cells.specs.Cell.{cellOf}
 use Rattle.text.specs.Numbers.{ifMade}
 
 -- a number that has a cell
-unfoldable pub ranged : Option ℤ → Option ℤ
-ranged none = none
-ranged (some z) = ifMade (cellOf z)
+unfoldable pub withinRange : Option ℤ → Option ℤ
+withinRange none = none
+withinRange (some z) = ifMade (cellOf z)

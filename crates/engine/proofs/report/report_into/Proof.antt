@@ -83,7 +83,7 @@ use Rattle.step_list.proofs.over.run_over as over
 use Rattle.step_list.proofs.over.run_over.Symbol as over-def
 use Rattle.step_list.proofs.over.run_over.Met as over-thm
 use Rattle.step_list.proofs.Calls.{asks-one, passes, gives}
-use Rattle.step_list.proofs.Lending.{Has, Gone, Token, Kept, KeptShown, Lent, lends, comes, Shown, shows, seen, lets-go}
+use Rattle.step_list.proofs.Lending.{Has, Gone, Token, Kept, KeptShown, LentSlice, lends, comes, Shown, shows, seen, lets-go}
 use Rattle.engine.proofs.planned.start_of as start
 use Rattle.engine.proofs.planned.start_of.Symbol as start-def
 use Rattle.engine.proofs.planned.start_of.Met as start-thm
@@ -356,7 +356,7 @@ module _ {M : Type 1} (𝓤 : URA M) (H : Heap 𝓤) (A : Atoms 𝓤) (W : Given
   asks-prep : ent 𝓤 (⋆ 𝓤 H A (Text ∷ Cells c₀ ∷ [])) (mean 𝓤 H A (later (some (λ (x : ℕ × GName). raw (Prep 𝓤 H A mem run .pre (to-prep x)) ⊛ ‵ TextOwn ⊛ CellsKept x))))
   asks-prep =
       qed W (Text ∷ Cells c₀ ∷ []) ∵ updating ! $ split ! $ use1 W (‵ TextOwn ⊛ ‵ TextOwn) (shr-slice-copy 𝓤 H A W (named 0) κt u8 .twice xt (st ∷ [])) $ split ! $ move ! (3 ∷ []) $
-      use1 W (later (some (λ (x : ℕ × GName). Lent i32 κc qc γc bc oc (length c₀) 𝓤 H A (named 1) W (named 1) c₀ x ⊛ Token i32 κc qc γc bc oc (length c₀) 𝓤 H A (named 1) x ⊛ CellsKept x))) (lends i32 κc qc γc bc oc (length c₀) 𝓤 H A (named 1) W (named 1) c₀ refl) $ await ! tt $ pick ! (λ x. split ! $ move ! (1 ∷ []) $ split ! $
+      use1 W (later (some (λ (x : ℕ × GName). LentSlice i32 κc qc γc bc oc (length c₀) 𝓤 H A (named 1) W (named 1) c₀ x ⊛ Token i32 κc qc γc bc oc (length c₀) 𝓤 H A (named 1) x ⊛ CellsKept x))) (lends i32 κc qc γc bc oc (length c₀) 𝓤 H A (named 1) W (named 1) c₀ refl) $ await ! tt $ pick ! (λ x. split ! $ move ! (1 ∷ []) $ split ! $
       -- [the token of the call; what is kept of the cells; the cells; the text; the text; its token]
       nothing ! $ move ! (1 ∷ 0 ∷ []) $ join ! $ move ! (5 ∷ 0 ∷ []) $ join ! $ nothing ! $ move ! (3 ∷ 0 ∷ []) $ fjoin ! $ move ! (3 ∷ 0 ∷ []) $ fjoin ! $ move ! (1 ∷ 0 ∷ []) $
       passes ! $
@@ -432,7 +432,7 @@ module _ {M : Type 1} (𝓤 : URA M) (H : Heap 𝓤) (A : Atoms 𝓤) (W : Given
     asks-lay : ent 𝓤 (mean 𝓤 H A (Steps ys)) (mean 𝓤 H A (later (some (λ (x : ℕ × GName). raw (Put 𝓤 H A mem run .pre (to-put (x .0 ∷ []) fullShare (x .1) ys s)) ⊛ StepsKept x))))
     asks-lay =
         qed W (Steps ys ∷ []) ∵ updating ! $
-        use1 W (later (some (λ (x : ℕ × GName). Lent T.the-row κs qs γs bs os n 𝓤 H A (named 4) W (named 0) ys x ⊛ Token T.the-row κs qs γs bs os n 𝓤 H A (named 4) x ⊛ StepsKept x))) (lends T.the-row κs qs γs bs os n 𝓤 H A (named 4) W (named 0) ys refl) $ await ! tt $ pick ! (λ x. split ! $ move ! (1 ∷ []) $ split ! $
+        use1 W (later (some (λ (x : ℕ × GName). LentSlice T.the-row κs qs γs bs os n 𝓤 H A (named 4) W (named 0) ys x ⊛ Token T.the-row κs qs γs bs os n 𝓤 H A (named 4) x ⊛ StepsKept x))) (lends T.the-row κs qs γs bs os n 𝓤 H A (named 4) W (named 0) ys refl) $ await ! tt $ pick ! (λ x. split ! $ move ! (1 ∷ []) $ split ! $
         move ! (2 ∷ 0 ∷ []) $ use2 W (raw (Put 𝓤 H A mem run .pre (to-put (x .0 ∷ []) fullShare (x .1) ys s))) (asks-put (x .0 ∷ []) fullShare (x .1) ys s is) $
         at-once ! $ show ! (λ (z : ℕ × GName). mean 𝓤 H A (raw (Put 𝓤 H A mem run .pre (to-put (z .0 ∷ []) fullShare (z .1) ys s)) ⊛ StepsKept z)) x $ done !)
 
@@ -467,8 +467,8 @@ module _ {M : Type 1} (𝓤 : URA M) (H : Heap 𝓤) (A : Atoms 𝓤) (W : Given
     asks-over =
         qed W (Cells c ∷ Work w₀ ∷ Steps L₁ ∷ []) ∵ updating ! $
         use1 W (later (some (λ (x : ℕ × GName). Shown i32 κc qc γc bc oc (length c₀) 𝓤 H A (named 1) W (named 1) c x ⊛ Token i32 κc qc γc bc oc (length c₀) 𝓤 H A (named 1) x ⊛ KeptShown i32 κc qc γc bc oc (length c₀) 𝓤 H A (named 1) c x))) (shows i32 κc qc γc bc oc (length c₀) 𝓤 H A (named 1) W (named 1) c c-len) $ await ! tt $ pick ! (λ y. move ! (1 ∷ []) $
-        use1 W (later (some (λ (x : ℕ × GName). Lent u16 κw qw γw bw ow (length w₀) 𝓤 H A (named 2) W (named 2) w₀ x ⊛ Token u16 κw qw γw bw ow (length w₀) 𝓤 H A (named 2) x ⊛ Kept u16 κw qw γw bw ow (length w₀) 𝓤 H A (named 2) w₀ x))) (lends u16 κw qw γw bw ow (length w₀) 𝓤 H A (named 2) W (named 2) w₀ refl) $ await ! tt $ pick ! (λ z. move ! (2 ∷ []) $
-        use1 W (later (some (λ (x : ℕ × GName). Lent T.the-row κs qs γs bs os n 𝓤 H A (named 4) W (named 0) L₁ x ⊛ Token T.the-row κs qs γs bs os n 𝓤 H A (named 4) x ⊛ Kept T.the-row κs qs γs bs os n 𝓤 H A (named 4) L₁ x))) (lends T.the-row κs qs γs bs os n 𝓤 H A (named 4) W (named 0) L₁ L₁-len) $ await ! tt $ pick ! (λ x.
+        use1 W (later (some (λ (x : ℕ × GName). LentSlice u16 κw qw γw bw ow (length w₀) 𝓤 H A (named 2) W (named 2) w₀ x ⊛ Token u16 κw qw γw bw ow (length w₀) 𝓤 H A (named 2) x ⊛ Kept u16 κw qw γw bw ow (length w₀) 𝓤 H A (named 2) w₀ x))) (lends u16 κw qw γw bw ow (length w₀) 𝓤 H A (named 2) W (named 2) w₀ refl) $ await ! tt $ pick ! (λ z. move ! (2 ∷ []) $
+        use1 W (later (some (λ (x : ℕ × GName). LentSlice T.the-row κs qs γs bs os n 𝓤 H A (named 4) W (named 0) L₁ x ⊛ Token T.the-row κs qs γs bs os n 𝓤 H A (named 4) x ⊛ Kept T.the-row κs qs γs bs os n 𝓤 H A (named 4) L₁ x))) (lends T.the-row κs qs γs bs os n 𝓤 H A (named 4) W (named 0) L₁ L₁-len) $ await ! tt $ pick ! (λ x.
         split ! $ move ! (1 ∷ []) $ split ! $ move ! (3 ∷ []) $ split ! $ move ! (1 ∷ []) $ split ! $ move ! (6 ∷ []) $ split ! $ move ! (1 ∷ []) $ split ! $
         -- [the cells' token; what is kept of them; the cells; work's token; what is kept of it; work; the steps' token; what is kept of them; the steps]
         nothing ! $ move ! (4 ∷ 0 ∷ []) $ join ! $ move ! (1 ∷ 0 ∷ []) $ join ! $ move ! (5 ∷ 0 ∷ []) $ join ! $
