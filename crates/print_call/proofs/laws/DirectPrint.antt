@@ -147,13 +147,13 @@ module _ (text : Bytes) (m : Lent) {a : Answer} {after : Lent} (e : record { ans
   unfolding printDirectCall
   as-call b r f g = g ∙ ap₂ (λ (z : Bytes) (l : Lent). printCall z l m out) (sym f) after-is
 
-  pub printed-refused : (n : ℕ) {r : Printed} → a ≡ Refused n → Prints (P.printed true (printRefusal n) out) r out′
+  pub printed-refused : (n : ℕ) {r : Printed} → a ≡ Refused n → Prints (P.printIf true (printRefusal n) out) r out′
       → record { answer = r; output = out′; lent = after } ≡ printDirectCall text m out
   printed-refused n {r} f p = as-call (printRefusal n) r (direct-refused text m n (sym (ap (λ (z : DirectCall). z .answer) e) ∙ f))
       (call-printed (printRefusal n) after m out h (printed-bytes true (printRefusal n) out h refl) p)
 
   pub printed-rows : (k tables : ℕ) {r : Printed} → a ≡ Rows k → tables ≡ widthOf text a → length (after .result) ≡ length (m .result)
-      → Prints (P.printed (rowsFit tables k (length (after .result))) (flatMap printRow (resultRows tables k (after .result))) out) r out′
+      → Prints (P.printIf (rowsFit tables k (length (after .result))) (flatMap printRow (resultRows tables k (after .result))) out) r out′
       → record { answer = r; output = out′; lent = after } ≡ printDirectCall text m out
   unfolding widthOf
   printed-rows k tables {r} f wide long p =

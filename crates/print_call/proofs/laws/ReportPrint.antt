@@ -141,13 +141,13 @@ module _ (text : Bytes) (m : Lent) {c : ReportCall} (e : c ≡ reportCall text m
   unfolding printReportCall
   as-call b r f g = g ∙ ap₂ (λ (z : Bytes) (l : Lent). printCall z l m out) (sym f) (ap (λ (z : ReportCall). z .lent) e)
 
-  pub printed-refused : (n : ℕ) {r : Printed} → c .answer ≡ Refused n → Prints (P.printed true (printRefusal n) out) r out′
+  pub printed-refused : (n : ℕ) {r : Printed} → c .answer ≡ Refused n → Prints (P.printIf true (printRefusal n) out) r out′
       → record { answer = r; output = out′; lent = c .lent } ≡ printReportCall text m out
   printed-refused n {r} f p = as-call (printRefusal n) r (report-refused text m n (sym (ap (λ (z : ReportCall). z .answer) e) ∙ f))
       (call-printed (printRefusal n) (c .lent) m out h (printed-bytes true (printRefusal n) out h refl) p)
 
   pub printed-rows : (k : ℕ) {r : Printed} → c .answer ≡ Rows k → length (c .lent .result) ≡ length (m .result)
-      → Prints (P.printed (fitting (c .facts) (c .count) k (length (c .lent .result)))
+      → Prints (P.printIf (fitting (c .facts) (c .count) k (length (c .lent .result)))
       (reportBytes (c .facts) (take (c .count) (c .steps)) (resultRows (c .facts .tables) k (c .lent .result))) out) r out′
       → record { answer = r; output = out′; lent = c .lent } ≡ printReportCall text m out
   printed-rows k {r} f long p =
