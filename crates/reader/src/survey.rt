@@ -25,7 +25,7 @@ ghost use Rattle.cells.specs.Limits.{mostBytes};
 ghost use Rattle.text.specs.Bytes.{lineFeed};
 ghost use Rattle.text.specs.inner.Parts.{until};
 ghost use Rattle.reader.specs.inner.CellBuffer.{LaidTo};
-ghost use Rattle.reader.specs.inner.Survey.{readingOf, tablesTold, joinsTold, pairsTold};
+ghost use Rattle.reader.specs.inner.Survey.{start, readingOf, tablesTold, joinsTold, pairsTold};
 ghost use Rattle.reader.specs.inner.RowLines.{RowsTo, Surveyed};
 
 // The place of the latest line, and what the lines of each part said so far.
@@ -37,7 +37,7 @@ pub struct Reading {
     pub pairs: Pairs,
 }
 
-// The reading of a text, or refused: then the reading says nothing.
+// The reading of a text, or refused: then the reading is that of no line.
 pub struct Stepped {
     pub accepted: bool,
     pub reading: Reading,
@@ -45,7 +45,7 @@ pub struct Stepped {
 
 // A text that question 2 turns down.
 fn refused() -> Stepped
-    ensures { λ r. ⌜ r .accepted ≡ false ⌝ }
+    ensures { λ r. ⌜ (r .accepted ≡ false) × (r .reading ≡ start) ⌝ }
 {
     let tables = tables::no_tables();
     let joins = join_lines::no_joins();

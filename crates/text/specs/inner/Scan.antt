@@ -1,9 +1,9 @@
 -- A cell looked at byte by byte: what stands between two places of a text. Assumes nothing.
 use mathlib.Core.Path.{_≡_}
 use mathlib.Core.Option.{some}
-use Prim.Native.Nat.{ℕ, _-_, _≤_, _<_}
+use Prim.Native.Nat.{ℕ, _-_, _≤_, _<_, _+_}
 use lib.IntN.{ℤ}
-use lib.ListN.{take, drop, length}
+use lib.ListN.{take, drop, length, getD}
 use Rattle.text.specs.Bytes.{Bytes}
 use Rattle.text.specs.Numbers.{cell}
 use Rattle.text.specs.inner.Digits.{digitsFrom}
@@ -32,3 +32,8 @@ CellFound bs from z to = (from < to) × (to ≤ length bs) × (some z ≡ cell (
 abbrev pub CellStands : Bytes → ℕ → CellAt → Type 0
 CellStands bs from (A.Value z to) = CellFound bs from z to
 CellStands bs from A.Bad = Unit {0}
+
+-- behind a minus sign that is a whole cell stands no digit from 1 to 9
+abbrev pub SignAlone : Bytes → ℕ → CellAt → Type 0
+SignAlone bs from (A.Value z to) = to ≡ from + 1 → to < length bs → 49 ≤ getD bs to 0 → 57 < getD bs to 0
+SignAlone bs from A.Bad = Unit {0}

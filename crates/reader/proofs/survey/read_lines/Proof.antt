@@ -62,7 +62,7 @@ same-length c = c .before .before .before .before .loop .inv .3
 returns : tie.Need-returns Inv-loop μ-loop
 unfolding lineFeed
 returns c =
-    let r = c .refused .ensures in
+    let r = c .refused .ensures .0 in
     let p = c .before .before in
     let d = p .before .before in
     survey-refused _ _ _ r (step-refused _ r
@@ -98,7 +98,7 @@ same-length-2 c = c .before .before .before .before .before .before .before .bef
 returns-2 : tie.Need-returns-2 Inv-loop μ-loop
 unfolding lineFeed
 returns-2 c =
-    let r = c .refused2 .ensures in
+    let r = c .refused2 .ensures .0 in
     let n = c .before in
     let a = n .before .before in
     let l = a .before in

@@ -11,7 +11,7 @@ refused-requires c κs = search needs
 
 returns : tie.Need-returns
 returns c =
-    let r = c .refused .ensures in
+    let r = c .refused .ensures .0 in
     survey-refused _ _ _ r (step-refused _ r ∙ survey-long _ (c .before .if1 .taken))
 
 read-lines-requires : tie.Need-read-lines-requires

@@ -21,7 +21,7 @@ minus-at-requires : tie.Need-minus-at-requires
 minus-at-requires c κs = search needs
 
 returns-3 : tie.Need-returns-3
-returns-3 c = search needs
+returns-3 c = c .minus-at .ensures .0
 
 returns-4 : tie.Need-returns-4
 returns-4 c = search needs
