@@ -17,7 +17,7 @@
    - no two of the buffers of one call overlap, and none overlaps the text;
    - nothing else reads or writes the buffers, or writes the text, during the call;
    - the thread has RUMBETHOLA_STACK bytes of stack left, 128 KiB. rumbethola_report and rumbethola_print_report take
-     less than 48 KiB of them, rumbethola_direct and rumbethola_print_direct less than 40 KiB. This is measured
+     less than 48 KiB of them, rumbethola_direct and rumbethola_print_direct less than 64 KiB. This is measured
      (tests/capi/check), not proved. A thread that is made with less needs pthread_attr_setstacksize.
    A slice of the proved routine is two arguments here, the pointer and the count of its numbers, in this order.
    The routines keep nothing between calls, use no heap and no file, and call only memcpy and memset, so that calls

@@ -69,9 +69,9 @@ static const struct {
     size_t below;
 } routines[ROUTINES] = {
     {"report", report, 48 * KIB},
-    {"direct", direct, 40 * KIB},
+    {"direct", direct, 64 * KIB},
     {"print_report", print_report, 48 * KIB},
-    {"print_direct", print_direct, 40 * KIB},
+    {"print_direct", print_direct, 64 * KIB},
 };
 
 /* The bytes of stack that a call takes. */

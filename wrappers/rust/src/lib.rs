@@ -20,7 +20,7 @@
 //! # Stack
 //!
 //! A call needs [`STACK`] bytes of the thread's stack, 128 KiB. The routines of the report take less than 48 KiB of
-//! them and those of the direct reading less than 40 KiB; the rest is for this wrapper and to spare. That is measured
+//! them and those of the direct reading less than 64 KiB; the rest is for this wrapper and to spare. That is measured
 //! (`tests/capi/check`), not proved. Where the stack is too small the process is ended, as by any stack overflow.
 //!
 //! The main thread and the threads of [`std::thread::spawn`] have enough (8 MiB and 2 MiB, where nobody sets
