@@ -16,7 +16,9 @@
      for its type; a count is the count of numbers, not of bytes;
    - no two of the buffers of one call overlap, and none overlaps the text;
    - nothing else reads or writes the buffers, or writes the text, during the call;
-   - the thread has 128 KiB of stack left. The most measured is 48,480 bytes (tests/capi/check).
+   - the thread has RUMBETHOLA_STACK bytes of stack left, 128 KiB. rumbethola_report and rumbethola_print_report take
+     less than 48 KiB of them, rumbethola_direct and rumbethola_print_direct less than 64 KiB. This is measured
+     (tests/capi/check), not proved. A thread that is made with less needs pthread_attr_setstacksize.
    A slice of the proved routine is two arguments here, the pointer and the count of its numbers, in this order.
    The routines keep nothing between calls, use no heap and no file, and call only memcpy and memset, so that calls
    with buffers of their own may run at the same time. */
@@ -31,8 +33,8 @@
 extern "C" {
 #endif
 
-/* The least counts of numbers of the lent buffers (question 1). A call with less is refused with 1, and no lent
-   memory is changed. */
+/* The least counts of numbers of the cell buffer `cells`, the work buffer `work` and the result buffer `result`
+   (question 1). */
 #define RUMBETHOLA_CELLS 4096
 #define RUMBETHOLA_WORK 16384
 #define RUMBETHOLA_RESULT 2048
@@ -40,14 +42,44 @@ extern "C" {
 /* The most bytes of a text (question 2). */
 #define RUMBETHOLA_TEXT 16384
 
-/* The least counts of the buffers that are handed over in: numbers for rumbethola_report and rumbethola_direct, bytes
-   for the prints. They are this library's own. A call with less returns RUMBETHOLA_NO_ROOM or RUMBETHOLA_NO_PRINT,
-   and no memory is changed, whatever the text and the other buffers are. */
+/* The least counts of the buffer that is handed over in: numbers of `answer` for rumbethola_report and
+   rumbethola_direct, bytes of `out` for the prints; and what a call with less returns. They are this library's own. */
 #define RUMBETHOLA_ANSWER 92
 #define RUMBETHOLA_DIRECT_ANSWER 2
 #define RUMBETHOLA_OUT 32768
 #define RUMBETHOLA_NO_ROOM 255
 #define RUMBETHOLA_NO_PRINT 4294967295u
+
+/* The bytes of stack that a call needs. */
+#define RUMBETHOLA_STACK 131072
+
+/* What a call returns and leaves in the buffers. The first case that fits is the call's, whatever the text and the
+   contents of the buffers are.
+
+   A. `answer` or `out` is shorter than its least count.
+      rumbethola_report and rumbethola_direct return RUMBETHOLA_NO_ROOM, the prints RUMBETHOLA_NO_PRINT.
+      No buffer is changed.
+   B. `cells`, `work` or `result` is shorter than its least count: refusal 1.
+      `cells`, `work` and `result` are as before. `answer` or `out` is written, as below.
+   C. A question from 2 to 11 turns the text down: the refusal has its number.
+      `cells` and `work` are filled with 0, to their ends. `result` is as before. `answer` or `out` is written.
+   D. There is an answer, of r rows and t tables.
+      `cells` and `work` are filled with 0, to their ends. The first r x t numbers of `result` are the rows, one after
+      the other in the order of the print: for each table a row number, or RUMBETHOLA_BLANK. The rest of `result` is as
+      before. `answer` or `out` is written.
+
+   In B, C and D:
+   - rumbethola_report writes the first RUMBETHOLA_ANSWER numbers of `answer`. In D they are what the places below
+     say. In B and C they are 0, but for the status, which is the number of the refusal.
+   - rumbethola_direct writes the first RUMBETHOLA_DIRECT_ANSWER numbers of `answer`: r and t in D, 0 and 0 in B and C.
+   - Both return 0 in D and the number of the refusal in B and C.
+   - The prints write the bytes of the print to the front of `out` and return how many they are. In B and C the print
+     is one line: E, a tab, the number of the refusal and a line feed, 4 or 5 bytes. In D no print begins with E; the
+     print of a direct reading without rows has 0 bytes.
+   - The rest of `answer` and of `out` is as before.
+
+   The text is never changed. rumbethola_report and rumbethola_print_report put all questions, and no text gets 10.
+   rumbethola_direct and rumbethola_print_direct do not put 9 and 10. */
 
 /* A table that is blank in a row of the result. */
 #define RUMBETHOLA_BLANK 65535
@@ -57,17 +89,18 @@ extern "C" {
 #define RUMBETHOLA_AT_TABLES 1    /* count of tables: how many numbers a row of the result has */
 #define RUMBETHOLA_AT_COUNT 2     /* count of steps of the plan */
 #define RUMBETHOLA_AT_STATUS 3    /* the number that the call returns */
-#define RUMBETHOLA_AT_SETS 4      /* eight blanking sets, table by table: bit k is condition k */
+#define RUMBETHOLA_AT_SETS 4      /* eight blanking sets, table by table: bit k is condition k; those behind the
+                                     tables are 0 */
 #define RUMBETHOLA_AT_STEPS 12    /* sixteen steps of five numbers; those behind the plan are 0 */
 #define RUMBETHOLA_TABLES 8
 #define RUMBETHOLA_STEPS 16
 
-/* The five numbers of a step. */
+/* The five numbers of a step. Those that a kind lacks are 0. */
 #define RUMBETHOLA_STEP_NUMBERS 5
 #define RUMBETHOLA_STEP_KIND 0
-#define RUMBETHOLA_STEP_FIRST 1
-#define RUMBETHOLA_STEP_SECOND 2
-#define RUMBETHOLA_STEP_ROWS 3
+#define RUMBETHOLA_STEP_FIRST 1         /* a node, of an outer join the preserved side; of a blanking step its table */
+#define RUMBETHOLA_STEP_SECOND 2        /* a node */
+#define RUMBETHOLA_STEP_ROWS 3          /* count of rows of a pair's result */
 #define RUMBETHOLA_STEP_CONDITIONS 4    /* bit k is condition k */
 
 /* The kinds of a step. */
@@ -77,36 +110,22 @@ extern "C" {
 #define RUMBETHOLA_BLANKING 4
 #define RUMBETHOLA_BEST_MATCH 5
 
-/* The report: plans the text's join tree in its joining order and runs the plan.
-
-   Returns 0 for an answer, the number of the question that turned the text down (1 to 11), or RUMBETHOLA_NO_ROOM.
-
-   An answer of r rows and t tables writes r x t numbers, row after row, to the front of `result`: row numbers or
-   RUMBETHOLA_BLANK. After a refusal `result` is as before. After refusal 1 `cells` and `work` are as before; after any
-   other call they are filled with 0.
-
-   The first RUMBETHOLA_ANSWER numbers of `answer` hold what the places above say. After a refusal they are 0 but for
-   the status. The rest of `answer`, and of `result` behind the rows, keeps its contents. */
+/* The report: plans the text's join tree in its joining order and runs the plan. */
 uint8_t rumbethola_report(const uint8_t *text, size_t text_count, int32_t *cells, size_t cell_count, uint16_t *work,
                           size_t work_count, uint16_t *result, size_t result_count, uint64_t *answer,
                           size_t answer_count);
 
-/* The direct reading: the rows of the join tree, read without plan and joining order; questions 9 and 10 are not asked.
-   As rumbethola_report, with an answer of RUMBETHOLA_DIRECT_ANSWER numbers: count of rows, count of tables; after a
-   refusal both are 0. */
+/* The direct reading: the rows of the join tree, read without plan and joining order. */
 uint8_t rumbethola_direct(const uint8_t *text, size_t text_count, int32_t *cells, size_t cell_count, uint16_t *work,
                           size_t work_count, uint16_t *result, size_t result_count, uint64_t *answer,
                           size_t answer_count);
 
-/* The whole print of the report, or of a refusal: what the program `report` writes for the text.
-
-   Returns the number of its bytes, at most RUMBETHOLA_OUT, which stand at the front of `out`, or RUMBETHOLA_NO_PRINT.
-   The rest of `out` keeps its contents; `cells`, `work` and `result` are left as by rumbethola_report. */
+/* The whole print of the report. In C and D it is what the program `report` writes for the text. */
 uint32_t rumbethola_print_report(const uint8_t *text, size_t text_count, int32_t *cells, size_t cell_count,
                                  uint16_t *work, size_t work_count, uint16_t *result, size_t result_count,
                                  uint8_t *out, size_t out_count);
 
-/* The print of the direct reading: what the program `direct` writes for the text. */
+/* The print of the direct reading. In C and D it is what the program `direct` writes for the text. */
 uint32_t rumbethola_print_direct(const uint8_t *text, size_t text_count, int32_t *cells, size_t cell_count,
                                  uint16_t *work, size_t work_count, uint16_t *result, size_t result_count,
                                  uint8_t *out, size_t out_count);

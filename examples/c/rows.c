@@ -2,14 +2,26 @@
 
        rows [--print] FILE
 
-   A row is written as in the print: R and, for each table, a row number or - behind a tab. Exit status 1: the text
-   was refused, and E with the number is printed. */
+   To build it, at the top of the repository:
 
+       rt staticlib capi
+       gcc -O2 -Iinclude examples/c/rows.c target/staticlib/libcapi.a -o rows
+
+   A row is written as in the print: R and, for each table, a row number or - behind a tab.
+
+   Exit status 0: an answer was printed. 1: the text was refused, and E with the number was printed. 2: the arguments
+   are wrong, the file could not be read, or the print could not be written; one line on standard error says which. */
+
+#define _POSIX_C_SOURCE 200112L
 #include "rumbethola.h"
 
+#include <signal.h>
 #include <stdio.h>
 #include <string.h>
 
+enum { ANSWERED = 0, REFUSED = 1, FAILED = 2 };
+
+/* One byte more than a text may have, so that a longer text is refused as such. */
 static uint8_t text[RUMBETHOLA_TEXT + 1];
 static int32_t cells[RUMBETHOLA_CELLS];
 static uint16_t work[RUMBETHOLA_WORK];
@@ -23,7 +35,7 @@ static int print_rows(size_t text_count)
                                        RUMBETHOLA_RESULT, answer, RUMBETHOLA_ANSWER);
     if (status != 0) {
         printf("E\t%d\n", status);
-        return 1;
+        return REFUSED;
     }
     size_t tables = answer[RUMBETHOLA_AT_TABLES];
     for (size_t row = 0; row < answer[RUMBETHOLA_AT_ROWS]; row++) {
@@ -37,30 +49,39 @@ static int print_rows(size_t text_count)
         }
         printf("\n");
     }
-    return 0;
+    return ANSWERED;
 }
 
 static int print_whole(size_t text_count)
 {
     uint32_t bytes = rumbethola_print_report(text, text_count, cells, RUMBETHOLA_CELLS, work, RUMBETHOLA_WORK, result,
                                              RUMBETHOLA_RESULT, out, RUMBETHOLA_OUT);
-    return fwrite(out, 1, bytes, stdout) == bytes ? 0 : 2;
+    fwrite(out, 1, bytes, stdout);
+    return out[0] == 'E' ? REFUSED : ANSWERED;
 }
 
 int main(int argc, char **argv)
 {
-    int whole = argc == 3 && strcmp(argv[1], "--print") == 0;
+    int whole = argc > 1 && strcmp(argv[1], "--print") == 0;
     if (argc != 2 + whole) {
         fprintf(stderr, "usage: rows [--print] FILE\n");
-        return 2;
+        return FAILED;
     }
-    FILE *file = fopen(argv[argc - 1], "rb");
-    if (file == NULL) {
-        perror(argv[argc - 1]);
-        return 2;
+    const char *path = argv[argc - 1];
+    FILE *file = fopen(path, "rb");
+    size_t text_count = file == NULL ? 0 : fread(text, 1, sizeof text, file);
+    if (file == NULL || ferror(file)) {
+        perror(path);
+        return FAILED;
     }
-    /* One byte more than a text may have, so that a longer text is refused as such. */
-    size_t text_count = fread(text, 1, sizeof text, file);
     fclose(file);
-    return whole ? print_whole(text_count) : print_rows(text_count);
+
+    /* A write into a closed pipe fails then, in place of ending the program. */
+    signal(SIGPIPE, SIG_IGN);
+    int status = whole ? print_whole(text_count) : print_rows(text_count);
+    if (fflush(stdout) != 0 || ferror(stdout)) {
+        perror("standard output");
+        return FAILED;
+    }
+    return status;
 }

@@ -1,47 +1,48 @@
--- An answer as numbers: this project's own form for programs in other languages (include/rumbethola.h). Assumes nothing.
+-- An answer as numbers: this project's own form for programs in other languages (include/rumbethola.h). Specification 10.10. Assumes
+-- nothing.
 use mathlib.Core.Path.{_≡_}
 use mathlib.Core.List.{List, [], _∷_, _++_, flatMap}
 use Prim.Native.Nat.{ℕ, _+_, _*_, _≤_}
 use lib.ListN.{length, drop}
 use Rattle.cells.specs.Limits.{mostTables, mostSteps, printRoom}
-use Rattle.plan.specs.declared.facts.Facts.{Facts}
-use Rattle.plan.specs.declared.step.Step.{Step}
+use Rattle.vocabulary.specs.declared.facts.Facts.{Facts}
+use Rattle.vocabulary.specs.declared.step.Step.{Step}
 use Rattle.print.specs.declared.whole.Printed.{Printed}
 use Rattle.print.specs.declared.whole.Printed.the-variants.{Bytes as Wrote, NoRoom, Unfit}
 use Rattle.engine.specs.declared.answer.Answer.{Answer}
 use Rattle.engine.specs.declared.answer.Answer.the-variants.{Rows, Refused}
 
--- the status of a call: 0 for an answer, or the number of the refusal
+-- the status of a call: 0 for an answer, or the number of the refusal. Specification 10.10
 unfoldable pub statusOf : Answer → ℕ
 statusOf (Rows n) = 0
 statusOf (Refused n) = n
 
--- the count of an answer's rows; a refusal has none
-unfoldable pub rowsOf : Answer → ℕ
-rowsOf (Rows n) = n
-rowsOf (Refused n) = 0
+-- the count of an answer's rows; a refusal has none. Specification 10.10
+unfoldable pub rowNumber : Answer → ℕ
+rowNumber (Rows n) = n
+rowNumber (Refused n) = 0
 
--- how many numbers an answer of the report has: four counts, a set for each table, and five for each step
+-- how many numbers an answer of the report has: four counts, a set for each table, and five for each step. Specification 10.10
 abbrev pub answerRoom : ℕ
 answerRoom = 4 + mostTables + 5 * mostSteps
 
--- a step: kind, first node, second node, rows, conditions
+-- a step: kind, first node, second node, rows, conditions. Specification 10.10
 unfoldable pub stepNumbers : Step → List ℕ
 stepNumbers s = s .kind ∷ s .first ∷ s .second ∷ s .rows ∷ s .conditions ∷ []
 
--- an answer of the report: rows, tables, count of steps, status, the sets, the steps
+-- an answer of the report: rows, tables, count of steps, status, the sets, the steps. Specification 10.10
 unfoldable pub answerNumbers : Answer → Facts → ℕ → List Step → List ℕ
-answerNumbers a f count steps = (rowsOf a ∷ f .tables ∷ count ∷ statusOf a ∷ []) ++ f .sets ++ flatMap stepNumbers steps
+answerNumbers a f count steps = (rowNumber a ∷ f .tables ∷ count ∷ statusOf a ∷ []) ++ f .sets ++ flatMap stepNumbers steps
 
--- numbers at the front of a run; the rest of the run keeps its contents
+-- numbers at the front of a buffer; the rest of it keeps its contents. Specification 10.10
 unfoldable pub atFront : List ℕ → List ℕ → List ℕ
-atFront numbers run = numbers ++ drop (length numbers) run
+atFront numbers buffer = numbers ++ drop (length numbers) buffer
 
--- returned where nothing is printed
+-- returned where nothing is printed. Specification 10.12
 abbrev pub noPrint : ℕ
 noPrint = 4294967295
 
--- the number of the bytes of a print
+-- the number of the bytes of a print. Specification 10.12
 unfoldable pub bytesOf : Printed → ℕ
 bytesOf (Wrote n) = n
 bytesOf NoRoom = noPrint

@@ -37,7 +37,7 @@ pub extern "C" fn rumbethola_print_report(
         ≡ printReportEntry (now (text .entry)) (record { cells = now (cells .entry); work = now (work .entry); result = now (result .entry) })
         (now (out .entry)) ⌝ }
 {
-    let p = program::report::print_report(text, cells, work, result, out);
+    let p = print_call::report::print_report(text, cells, work, result, out);
     bytes_of(p)
 }
 
@@ -58,6 +58,6 @@ pub extern "C" fn rumbethola_print_direct(
         ≡ printDirectEntry (now (text .entry)) (record { cells = now (cells .entry); work = now (work .entry); result = now (result .entry) })
         (now (out .entry)) ⌝ }
 {
-    let p = program::direct::print_direct(text, cells, work, result, out);
+    let p = print_call::direct::print_direct(text, cells, work, result, out);
     bytes_of(p)
 }

@@ -8,7 +8,7 @@ ghost use Rattle.capi.specs.Entries.{reportEntry};
 // How many numbers an answer of the report has: rows, tables, count of steps, status, the sets, and five for each step.
 pub const ANSWER: usize = 4 + TABLES + 5 * STEPS;
 
-// What is returned where the run for the answer is too short.
+// What is returned where the buffer for the answer is too short.
 pub const NO_ROOM: u8 = 255;
 
 // 0 for an answer, or the number of the refusal; the numbers of the answer stand at the front of `answer`, and all lent memory is that

@@ -1,5 +1,6 @@
 pub mod Ints
 pub mod Lists
 pub mod Numbers
-pub mod Walks
 pub mod Views
+pub mod Walks
+pub mod laws

@@ -1,4 +1,4 @@
--- Operators and outcomes: document 01, "Conditions". Assumes nothing.
+-- Operators, and how two numbers compare: document 01, "Conditions". Specification 4.2. Assumes nothing.
 use mathlib.Core.Bool.{Bool, false, not, _&&_}
 use mathlib.Core.List.{List, [], _∷_}
 use Prim.Native.Nat.{ℕ, _+_, _*_, _/_, _%_}
@@ -7,24 +7,24 @@ use lib.ListN.{getD}
 use lib.Signed.{ltZ, leZ}
 use Rattle.cells.specs.Choice.{if_then_else_}
 use Rattle.cells.specs.Cell.{eqZ, isBlank}
-use Rattle.cells.specs.declared.operator.Outcome.{Outcome}
-use Rattle.cells.specs.declared.operator.Outcome.the-variants.{Less, Equal, Greater}
+use Rattle.cells.specs.declared.operator.Ordering.{Ordering}
+use Rattle.cells.specs.declared.operator.Ordering.the-variants.{Less, Equal, Greater}
 
--- the outcomes less, equal, greater: the number of each is its column in the table of operators
-unfoldable pub columnOf : Outcome → ℕ
+-- the orderings less, equal, greater: the number of each is its column in the table of operators. Specification 4.2
+unfoldable pub columnOf : Ordering → ℕ
 columnOf Less = 0
 columnOf Equal = 1
 columnOf Greater = 2
 
--- how two numbers compare
-unfoldable pub outcomeOf : ℤ → ℤ → Outcome
-outcomeOf x y = if ltZ x y then Less else if ltZ y x then Greater else Equal
+-- how two numbers compare. Specification 4.2
+unfoldable pub orderingOf : ℤ → ℤ → Ordering
+orderingOf x y = if ltZ x y then Less else if ltZ y x then Greater else Equal
 
--- what is true of no numbers: a code that is no operator's
+-- what is true of no numbers: a code that is no operator's. Specification 4.3
 unfoldable pub never : ℤ → ℤ → Bool
 never x y = false
 
--- what each operator says of two numbers, by its code: `<` 1, `=` 2, `<=` 3, `>` 4, `<>` 5, `>=` 6
+-- what each operator says of two numbers, by its code: `<` 1, `=` 2, `<=` 3, `>` 4, `<>` 5, `>=` 6. Specification 4.2
 unfoldable pub operators : List (ℤ → ℤ → Bool)
 operators =
     never
@@ -36,7 +36,7 @@ operators =
     ∷ (λ x y. leZ y x)
     ∷ []
 
--- whether an operator, by its code, is true of two numbers
+-- whether an operator, by its code, is true of two numbers. Specification 4.2, 4.3
 unfoldable pub says : ℕ → ℤ → ℤ → Bool
 says op x y = getD operators op never x y
 
@@ -44,6 +44,6 @@ says op x y = getD operators op never x y
 unfoldable pub mirrorOf : ℕ → ℕ
 mirrorOf op = op / 4 + op / 2 % 2 * 2 + op % 2 * 4
 
--- a condition on two cells: "if either cell is blank, the condition is not true, `<>` included"
+-- a condition on two cells: "if either cell is blank, the condition is not true, `<>` included". Specification 4.4
 unfoldable pub holds : ℕ → ℤ → ℤ → Bool
 holds op x y = not (isBlank x) && not (isBlank y) && says op x y

@@ -36,7 +36,7 @@ pub const STEPS: usize = PAIRS + TABLES + 1;
 
 // ---- what is lent, in numbers of its kind
 
-// The cell run: cellRoom.
+// The cell buffer: cellRoom.
 pub const CELL_ROOM: usize = 4096;
 
 // The work buffer, which is areas for the rows of one result each: workRoom, areas, areaRoom.

@@ -1,4 +1,4 @@
-// Prints the direct reading of the text on standard input.
+// Program `direct`: prints the direct reading of the text on standard input.
 use cells::limits::BYTES;
 use cells::limits::CELL_ROOM;
 use cells::limits::PRINT_ROOM;
@@ -20,9 +20,18 @@ fn main() {
     let mut work = [0u16; WORK_ROOM];
     let mut result = [0u16; RESULT_ROOM];
     let mut out = [0u8; PRINT_ROOM];
-    let p = program::direct::print_direct(&text[..n], &mut cells, &mut work, &mut result, &mut out);
+    let p = print_call::direct::print_direct(
+        &text[..n],
+        &mut cells,
+        &mut work,
+        &mut result,
+        &mut out,
+    );
     let Printed::Bytes(m) = p else {
         return;
     };
-    io::write_all(1, &out[..m]);
+    if !io::write_all(1, &out[..m]) {
+        let message = *b"direct: standard output cannot be written\n";
+        io::write_all(2, &message);
+    }
 }

@@ -1,52 +1,55 @@
--- What the engine and the direct reading answer to a text: document 01, "Questions, in order". Assumes nothing.
+-- What the engine and the direct reading answer to a text: document 01, "Questions, in order". Specification 9.1. Assumes nothing.
 use mathlib.Core.List.{List, map}
 use mathlib.Core.Option.{Option, none, some}
 use Prim.Native.Nat.{ℕ}
 use Rattle.cells.specs.Row.{Row}
-use Rattle.plan.specs.Asking.{Question, firstNo, questionsOfReport, questionsOfDirect}
-use Rattle.plan.specs.Report.{Report, queryOf}
-use Rattle.plan.specs.Sets.{blankingSets}
-use Rattle.plan.specs.Steps.{bitsOf}
-use Rattle.plan.specs.declared.step.Step.{Step}
+use Rattle.vocabulary.specs.Asking.{Question, firstNo}
+use Rattle.vocabulary.specs.Report.{Report, queryOf}
+use Rattle.vocabulary.specs.Steps.{bitsOf}
+use Rattle.vocabulary.specs.declared.step.Step.{Step}
 use Rattle.text.specs.Bytes.{Bytes}
 use Rattle.text.specs.Reading.{readReport}
-use Rattle.run.specs.Runs.{directRows, question11Direct, reportRows, reportSteps, question11}
+use Rattle.plan.specs.Sets.{blankingSets}
+use Rattle.prepare.specs.Asking.{questionsOfReport, questionsOfDirect}
+use Rattle.executor.specs.Runs.{question11, question11Direct, reportRows, reportSteps, directRows}
 
--- the number of the question that turned the text down, or an answer
+-- the number of the question that turned the text down, or an answer. Specification 1.7
 pub data Outcome (A : Type 0) : Type 0 where
   refused : ℕ → Outcome A
   answered : A → Outcome A
 
--- what the engine and the direct reading are asked, behind question 2
+-- what the engine and the direct reading are asked, behind question 2. Specification 9.2
 unfoldable pub reportQuestions : List (Question Report)
 reportQuestions = questionsOfReport (λ (r : Report). question11 r)
 
+-- Specification 9.2
 unfoldable pub directQuestions : List (Question Report)
 directQuestions = questionsOfDirect (λ (r : Report). question11Direct r)
 
 -- the outcome for a report, or for a text that question 2 turns down, given the questions that come after question 2 and the answer
--- to a report that passes them
+-- to a report that passes them. Specification 9.1
 unfoldable pub outcomeFor : {A : Type 0} → List (Question Report) → (Report → A) → Option Report → Outcome A
 outcomeFor questions answer none = refused 2
 outcomeFor questions answer (some r) = elim (firstNo questions r) [ some n ↦ refused n | none ↦ answered (answer r) ]
 
--- the outcome for a text
+-- the outcome for a text. Specification 9.1
 unfoldable pub outcomeBy : {A : Type 0} → List (Question Report) → (Report → A) → Bytes → Outcome A
 outcomeBy questions answer text = outcomeFor questions answer (readReport text)
 
--- what an answer of the engine holds: each table's set as bits, the plan, and the rows
+-- what an answer of the engine holds: each table's set as bits, the plan, and the rows. Specification 10.7
 pub record ReportAnswer : Type 0 where
   pub sets : List ℕ
   pub steps : List Step
   pub rows : List Row
 
+-- Specification 10.7
 unfoldable pub reportAnswer : Report → ReportAnswer
 reportAnswer r = record { sets = map bitsOf (blankingSets (queryOf r)); steps = reportSteps r; rows = reportRows r }
 
--- the engine's outcome for a text
+-- the engine's outcome for a text. Specification 9.1
 unfoldable pub reportOutcome : Bytes → Outcome ReportAnswer
 reportOutcome text = outcomeBy reportQuestions reportAnswer text
 
--- the direct reading's outcome for a text: its rows
+-- the direct reading's outcome for a text: its rows. Specification 9.1
 unfoldable pub directOutcome : Bytes → Outcome (List Row)
 directOutcome text = outcomeBy directQuestions directRows text

@@ -1,120 +1,38 @@
--- Demand 2 over what is handed over: the rows of an answer, and the numbers that the two routines write, are the rows that SQL's joins define
--- for the tree of the text as written: each due row once, no other, in rising order. Assumes nothing.
-use mathlib.Core.Path.{_≡_, refl, sym, ap, _∙_, subst}
-use mathlib.Core.Bool.{Bool, true, false}
-use mathlib.Core.List.{List, [], _∷_, _++_}
-use mathlib.Core.Option.{none, some}
+-- Demand 2: the rows that the two routines write are those that SQL's joins define for the tree of the text as written: each due row once,
+-- no other, in rising order. This file is the statement; proofs/Demand2.antt proves it. Specification 1.8. Assumes nothing.
+use mathlib.Core.Path.{_≡_}
+use mathlib.Core.List.{List}
+use mathlib.Core.Option.{some}
 use Prim.Native.Nat.{ℕ}
 use lib.ListN.{length}
 use Rattle.cells.specs.Row.{Row}
-use Rattle.cells.specs.BoolLaws.{clash}
-use Rattle.rows.specs.ListLaws.{here}
 use Rattle.rows.specs.Due.{Reads}
-use Rattle.plan.specs.Asking.{firstNo, about, sharedQuestions, orderQuestions, questionsOfReport, questionsOfDirect}
-use Rattle.plan.specs.AskingLaws.{all-yes, append-yes, first-about}
-use Rattle.plan.specs.Report.{Report, Query, queryOf}
-use Rattle.plan.specs.Nodes.{joinTree}
-use Rattle.plan.specs.Plan.{groundOf, blankings}
-use Rattle.plan.specs.Questions.{question9}
-use Rattle.plan.specs.StepLists.{own-list}
-use Rattle.plan.specs.Database.{database}
-use Rattle.plan.specs.Facts.{noFacts}
-use Rattle.plan.specs.declared.step.Step.{Step}
+use Rattle.vocabulary.specs.Report.{Report, queryOf}
+use Rattle.vocabulary.specs.Nodes.{joinTree}
+use Rattle.vocabulary.specs.Database.{database}
+use Rattle.vocabulary.specs.declared.step.Step.{Step}
 use Rattle.text.specs.Bytes.{Bytes}
 use Rattle.text.specs.Reading.{readReport}
-use Rattle.run.specs.Runs.{directRows, reportRows, question11, question11Direct}
-use Rattle.engine.specs.Answers.{Outcome, refused, answered, reportQuestions, directQuestions, ReportAnswer, reportAnswer, reportOutcome, directOutcome}
-use Rattle.engine.specs.AnswerLaws.{read-well, answered-report}
-use Rattle.engine.specs.Calls.{Lent, question1, question1Direct, written, ReportCall, reportAfter, reportCall, DirectCall, directAfter, directCall, cleared}
-use Rattle.engine.specs.Demand3Proof.{report-rows, report-reads}
-use Rattle.engine.specs.declared.answer.Answer.the-variants.{Rows, Refused}
+use Rattle.engine.specs.Calls.{Lent, written, ReportCall, reportCall, DirectCall, directCall}
+use Rattle.engine.specs.declared.answer.Answer.the-variants.{Rows}
 
--- the rows are those of the tree that the text says: each due row once, no other, in rising order
+-- the rows are those of the tree that the text says: each due row once, no other, in rising order. Specification 1.8
 pub record DueRows (text : Bytes) (rows : List Row) : Type 0 where
   pub report : Report
   pub read : readReport text ≡ some report
   pub reads : Reads (database report) (joinTree (queryOf report)) rows
 
--- ---- the rows of an answer
-
-due-rows : (text : Bytes) (r : Report) → readReport text ≡ some r → firstNo sharedQuestions r ≡ none → (rows : List Row)
-    → directRows r ≡ rows → DueRows text rows
-due-rows text r read passed rows e = record {
-  report = r;
-  read = read;
-  reads = subst (Reads (database r) (joinTree (queryOf r))) e (report-reads r (read-well text r read) passed);
-}
-
--- the rows of an answer of the engine
-pub report-due : (text : Bytes) (a : ReportAnswer) → reportOutcome text ≡ answered a → DueRows text (a .rows)
-unfolding reportOutcome reportQuestions questionsOfReport orderQuestions reportAnswer reportRows
-report-due text a e =
-    let (r, read, passed, same) = answered-report reportQuestions reportAnswer text a e in
-    let (before, last) = append-yes (sharedQuestions ++ about queryOf orderQuestions) ((11, λ (r : Report). question11 r) ∷ []) r passed in
-    let (shared, order) = append-yes sharedQuestions (about queryOf orderQuestions) r before in
-    let nine = all-yes orderQuestions (queryOf r) (sym (first-about queryOf orderQuestions r) ∙ order) (9, λ (q : Query). question9 q) (here refl) in
-    due-rows text r read shared (a .rows)
-    (sym (report-rows r (read-well text r read) shared nine (blankings (groundOf (queryOf r))) (own-list (groundOf (queryOf r))))
-    ∙ ap (λ (x : ReportAnswer). x .rows) same)
-
--- the rows of an answer of the direct reading
-pub direct-due : (text : Bytes) (rows : List Row) → directOutcome text ≡ answered rows → DueRows text rows
-unfolding directOutcome directQuestions questionsOfDirect
-direct-due text rows e =
-    let (r, read, passed, same) = answered-report directQuestions directRows text rows e in
-    let (shared, rest) = append-yes sharedQuestions ((11, λ (r : Report). question11Direct r) ∷ []) r passed in
-    due-rows text r read shared rows same
-
--- ---- what the routines write
-
--- n rows are written at the front of a result buffer, the rest of which keeps its contents: the rows of the text's tree
+-- n rows are written at the front of a result buffer, the rest of which keeps its contents: the rows of the text's tree. Specification 1.8, 10.5
 pub record DueWritten (text : Bytes) (n : ℕ) (before after : List ℕ) : Type 0 where
   pub rows : List Row
   pub due : DueRows text rows
   pub count : n ≡ length rows
   pub result : after ≡ written rows before
 
-same-count : (n k : ℕ) → Rows k ≡ Rows n → n ≡ k
-same-count n k e = let z : k ≡ n = cc in sym z
-
-module _ (text : Bytes) (m : Lent) (n : ℕ) where
-  -- what `report_into` and `report` write: c is what a call hands over, with lent memory afterwards, by their contracts
-  pub report-writes : (steps : List Step) (c : ReportCall) → c ≡ reportCall text m steps → c .answer ≡ Rows n
-      → DueWritten text n (m .result) (c .lent .result)
-  unfolding reportCall reportAfter cleared
-  report-writes steps c e f = rw e (asked (question1 m steps) (sym (ap (λ (x : ReportCall). x .answer) e) ∙ f))
-    where
-      after : (o : Outcome ReportAnswer) → reportOutcome text ≡ o → reportAfter o m steps .answer ≡ Rows n
-          → DueWritten text n (m .result) (reportAfter o m steps .lent .result)
-      after (refused k) p g = clash cc
-      after (answered a) p g = record { rows = a .rows; due = report-due text a p; count = same-count n (length (a .rows)) g; result = refl }
-
-      asked : (b : Bool) → (elim b as (λ z. ReportCall) [
-        | true ↦ reportAfter (reportOutcome text) m steps
-        | false ↦ record { answer = Refused 1; facts = noFacts; count = 0; lent = m; steps = steps }
-      ]) .answer ≡ Rows n → DueWritten text n (m .result) ((elim b as (λ z. ReportCall) [
-        | true ↦ reportAfter (reportOutcome text) m steps
-        | false ↦ record { answer = Refused 1; facts = noFacts; count = 0; lent = m; steps = steps }
-      ]) .lent .result)
-      asked true g = after (reportOutcome text) refl g
-      asked false g = clash cc
-
-  -- what `direct` and `find` write
-  pub direct-writes : (c : DirectCall) → c ≡ directCall text m → c .answer ≡ Rows n → DueWritten text n (m .result) (c .lent .result)
-  unfolding directCall directAfter cleared
-  direct-writes c e f = rw e (asked (question1Direct m) (sym (ap (λ (x : DirectCall). x .answer) e) ∙ f))
-    where
-      after : (o : Outcome (List Row)) → directOutcome text ≡ o → directAfter o m .answer ≡ Rows n
-          → DueWritten text n (m .result) (directAfter o m .lent .result)
-      after (refused k) p g = clash cc
-      after (answered rows) p g = record { rows = rows; due = direct-due text rows p; count = same-count n (length rows) g; result = refl }
-
-      asked : (b : Bool) → (elim b as (λ z. DirectCall) [
-        | true ↦ directAfter (directOutcome text) m
-        | false ↦ record { answer = Refused 1; lent = m }
-      ]) .answer ≡ Rows n → DueWritten text n (m .result) ((elim b as (λ z. DirectCall) [
-        | true ↦ directAfter (directOutcome text) m
-        | false ↦ record { answer = Refused 1; lent = m }
-      ]) .lent .result)
-      asked true g = after (directOutcome text) refl g
-      asked false g = clash cc
+-- what `report_into` and `direct` write where they answer n rows: c is what a call hands over, with lent memory afterwards, by its contract
+abbrev pub Demand2 : Type 0
+Demand2 =
+    ((text : Bytes) (m : Lent) (steps : List Step) (c : ReportCall) (n : ℕ) → c ≡ reportCall text m steps → c .answer ≡ Rows n
+    → DueWritten text n (m .result) (c .lent .result))
+    × ((text : Bytes) (m : Lent) (c : DirectCall) (n : ℕ) → c ≡ directCall text m → c .answer ≡ Rows n
+    → DueWritten text n (m .result) (c .lent .result))

@@ -14,7 +14,7 @@ pub fn clear_work(work: &mut [u16])
     }
 }
 
-// The cell run.
+// The cell buffer.
 pub fn clear_cells(cells: &mut [i32])
     ensures { λ r. ⌜ now (cells .exit) ≡ replicate (length (now (cells .entry))) (pos 0) ⌝ }
 {

@@ -1,25 +1,25 @@
 // The direct reading of a text: document 01, "The tree read directly".
 use crate::answer::Answer;
-use accept::accept::Outcome;
 use cells::limits::STEP_ROOM;
 use joins::join::Joined;
-use plan::query::StoredQuery;
+use prepare::accept::AcceptOutcome;
+use vocabulary::query::StoredQuery;
 ghost use mathlib.Core.Path.{_≡_};
 ghost use Prim.Native.Nat.{_≤_};
 ghost use lib.ListN.{length};
 ghost use Rattle.cells.specs.Limits.{cellRoom, workRoom, resultRoom};
-ghost use Rattle.joins.specs.Work.{workspace};
-ghost use Rattle.run.specs.Reading.{Readable};
+ghost use Rattle.joins.specs.inner.Work.{workspace};
+ghost use Rattle.executor.specs.inner.Reading.{Readable};
 ghost use Rattle.engine.specs.Answers.{directOutcome};
-ghost use Rattle.engine.specs.Calls.{directCall};
-ghost use Rattle.engine.specs.Gave.{Gave, TreeRead, widthOf, ifRows};
+ghost use Rattle.engine.specs.Calls.{directCall, widthOf};
+ghost use Rattle.engine.specs.inner.Gave.{Gave, TreeRead, ifRows};
 
 // Question 11 of a query, and its rows.
 fn read_tree(q: StoredQuery, cells: &[i32], work: &mut [u16], result: &mut [u16]) -> Answer
     requires { ⌜ Readable q × (1 ≤ q .«table_count») × (workRoom ≤ length (now work)) × (resultRoom ≤ length (now result)) ⌝ }
     ensures { λ r. ⌜ TreeRead (workspace (now (cells .entry)) (q .layout) (q .conditions)) q (now (result .entry)) (now (result .exit)) r ⌝ }
 {
-    let r = run::direct::direct(cells, q, work, result);
+    let r = executor::direct::direct(cells, q, work, result);
     match r {
         Joined::Rows(n) => Answer::Rows(n),
         Joined::TooMany => Answer::Refused(11),
@@ -42,20 +42,21 @@ pub struct Found {
     pub tables: usize,
 }
 
-// Questions 2 to 8 and 11 of a text, and its rows. The cell run and the work buffer are left as they come.
+// Questions 2 to 8 and 11 of a text, and its rows. The cell buffer and the work buffer are left as they come.
 fn read_text(text: &[u8], cells: &mut [i32], work: &mut [u16], result: &mut [u16]) -> Found
     requires { ⌜ (cellRoom ≤ length (now cells)) × (workRoom ≤ length (now work)) × (resultRoom ≤ length (now result)) ⌝ }
-    ensures { λ r. ⌜ Gave (directOutcome (now (text .entry))) (now (result .entry)) (now (result .exit)) (r .answer) × (r .tables ≡ widthOf (now (text .entry)) (r .answer)) ⌝ }
+    ensures { λ r. ⌜ Gave (directOutcome (now (text .entry))) (now (result .entry)) (now (result .exit)) (r .answer)
+        × (r .tables ≡ widthOf (now (text .entry)) (r .answer)) ⌝ }
 {
-    let a = accept::accept::accept(text, cells);
+    let a = prepare::accept::accept(text, cells);
     let outcome = a.outcome;
     let q = a.query;
     match outcome {
-        Outcome::Refused(n) => Found {
+        AcceptOutcome::Refused(n) => Found {
             answer: Answer::Refused(n),
             tables: 0,
         },
-        Outcome::Accepted => {
+        AcceptOutcome::Accepted => {
             let answer = read_tree(q, cells, work, result);
             Found {
                 answer: answer,

@@ -5,7 +5,7 @@ use cells::limits::STEP_ROOM;
 use cells::limits::WORK_ROOM;
 ghost use mathlib.Core.Path.{_≡_};
 ghost use mathlib.Core.Bool.{not};
-ghost use Rattle.engine.specs.Preparing.{enoughLent};
+ghost use Rattle.engine.specs.inner.Preparing.{enoughLent};
 
 // By the lengths of what is lent: whether it is too little.
 pub(crate) fn too_little(cells: usize, work: usize, result: usize, steps: usize) -> bool

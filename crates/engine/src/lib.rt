@@ -1,8 +1,7 @@
-// The two exported routines, the report and the direct reading, and their print.
+// The two exported routines, the report and the direct reading of a text, over lent memory.
 pub mod answer;
 pub mod clear;
 pub mod direct;
 mod lent;
 pub mod planned;
-pub mod prepare;
 pub mod report;

@@ -1,23 +1,24 @@
-// What a run hands over: document 01, "The plan".
+// The state at the start of a run, and what the run hands over: document 01, "The plan".
 use crate::answer::Answer;
 use cells::limits::AREAS;
 use joins::join::Joined;
-use plan::facts;
-use plan::facts::Facts;
-use plan::steps::StepList;
-use ready::prepared::Prepared;
-use runner::state::Run;
+use plan::steps::Plan;
+use prepare::prepared::Prepared;
+use step_list::state::State;
+use vocabulary::facts;
+use vocabulary::facts::Facts;
 ghost use mathlib.Core.Path.{_≡_};
 ghost use Prim.Native.Nat.{_≤_};
 ghost use Rattle.cells.specs.Limits.{areas};
-ghost use Rattle.engine.specs.Planning.{refusedReply, answeredWith, turnedDown, withCounts};
-ghost use Rattle.engine.specs.Preparing.{Within, Ends, Concludes};
+ghost use Rattle.step_list.specs.inner.State.{startState};
+ghost use Rattle.engine.specs.inner.Planning.{refusedReply, answeredWith, turnedDown, withCounts};
+ghost use Rattle.engine.specs.inner.Preparing.{TablesWithin, Ends, Concludes};
 
 // What a call of the engine hands over by value: its answer, what stands beside it, and the plan.
 pub struct Planned {
     pub answer: Answer,
     pub facts: Facts,
-    pub plan: StepList,
+    pub plan: Plan,
 }
 
 // What is answered where the plan is in a lent list of steps: the answer, what stands beside it, and how many steps the plan has.
@@ -30,7 +31,7 @@ pub struct Reply {
 // What a call hands over: what is answered, and the plan that the list of steps is to hold.
 pub struct Concluded {
     pub reply: Reply,
-    pub plan: StepList,
+    pub plan: Plan,
 }
 
 // A refusal: there is no table and no step.
@@ -54,7 +55,7 @@ fn turned_down(number: u8) -> Concluded
 }
 
 // The plan with the count of rows of each of its pairs.
-fn with_counts(list: StepList, counts: [u16; AREAS], pairs: usize) -> StepList
+fn with_counts(list: Plan, counts: [u16; AREAS], pairs: usize) -> Plan
     requires { ⌜ pairs ≤ areas ⌝ }
     ensures { λ r. ⌜ r ≡ withCounts list counts pairs ⌝ }
 {
@@ -69,7 +70,7 @@ fn with_counts(list: StepList, counts: [u16; AREAS], pairs: usize) -> StepList
 }
 
 // An answer with these rows, and its plan.
-fn answered(rows: usize, facts: Facts, plan: StepList) -> Concluded
+fn answered(rows: usize, facts: Facts, plan: Plan) -> Concluded
     ensures { λ r. ⌜ r ≡ answeredWith rows facts plan ⌝ }
 {
     Concluded {
@@ -84,8 +85,8 @@ fn answered(rows: usize, facts: Facts, plan: StepList) -> Concluded
 
 // What a run hands over: the refusal where a question turned the text down or a pair has too many rows; or the rows in the result,
 // how many they are, and the plan with its counts.
-fn hand_over(work: &[u16], result: &mut [u16], p: Prepared, r: Run) -> Concluded
-    requires { ⌜ Within p ⌝ }
+fn hand_over(work: &[u16], result: &mut [u16], p: Prepared, r: State) -> Concluded
+    requires { ⌜ TablesWithin p ⌝ }
     ensures { λ x. ⌜ Ends p r (now (work .entry)) (now (result .entry)) (now (result .exit)) x ⌝ }
 {
     if 0 < p.number {
@@ -98,22 +99,22 @@ fn hand_over(work: &[u16], result: &mut [u16], p: Prepared, r: Run) -> Concluded
     let pairs = tables - 1;
     let facts = Facts { tables, sets };
     let counts = r.counts;
-    let found = runner::last::finish_run(work, q, r, result);
+    let found = step_list::last::finish_run(work, q, r, result);
     match found {
         Joined::Rows(n) => answered(n, facts, with_counts(list, counts, pairs)),
         Joined::TooMany => turned_down(11),
     }
 }
 
-// The end of a call: what the run hands over; then the work buffer and the cell run are filled with 0.
+// The end of a call: what the run hands over; then the work buffer and the cell buffer are filled with 0.
 pub(crate) fn conclude(
     cells: &mut [i32],
     work: &mut [u16],
     result: &mut [u16],
     p: Prepared,
-    r: Run,
+    r: State,
 ) -> Concluded
-    requires { ⌜ Within p ⌝ }
+    requires { ⌜ TablesWithin p ⌝ }
     ensures { λ x. ⌜ Concludes p r (now (cells .entry)) (now (cells .exit)) (now (work .entry)) (now (work .exit))
         (now (result .entry)) (now (result .exit)) x ⌝ }
 {
@@ -124,7 +125,7 @@ pub(crate) fn conclude(
 }
 
 // The plan that is handed over.
-pub(crate) fn list_of(h: Concluded) -> StepList
+pub(crate) fn list_of(h: Concluded) -> Plan
     ensures { λ r. ⌜ r ≡ h .plan ⌝ }
 {
     h.plan
@@ -135,4 +136,11 @@ pub(crate) fn reply_of(h: Concluded) -> Reply
     ensures { λ r. ⌜ r ≡ h .reply ⌝ }
 {
     h.reply
+}
+
+// The state at the start of the run. The plan of a text that was turned away has no steps, so that nothing runs.
+pub(crate) fn start_of(p: Prepared) -> State
+    ensures { λ r. ⌜ r ≡ startState (p .query) ⌝ }
+{
+    step_list::state::start(p.query)
 }

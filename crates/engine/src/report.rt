@@ -3,17 +3,16 @@ use crate::lent;
 use crate::planned;
 use crate::planned::Planned;
 use crate::planned::Reply;
-use crate::prepare;
 use cells::limits::STEPS;
-use plan::step::Step;
-use plan::steps::StepList;
-use ready::prepared;
+use plan::steps::Plan;
+use prepare::prepared;
+use vocabulary::step::Step;
 ghost use mathlib.Core.Path.{_≡_};
 ghost use lib.ListN.{replicate};
 ghost use Rattle.cells.specs.Limits.{mostSteps};
-ghost use Rattle.plan.specs.Steps.{zeroStep};
+ghost use Rattle.vocabulary.specs.Steps.{zeroStep};
 ghost use Rattle.engine.specs.Calls.{reportCall};
-ghost use Rattle.engine.specs.Preparing.{byValue};
+ghost use Rattle.engine.specs.inner.Preparing.{byValue};
 
 // The report: what is answered, all lent memory and the lent list of steps are those of `reportCall`, whatever is lent. The plan is
 // laid into the list and run from it; at the end the list has the plan with its counts, or zero steps only.
@@ -37,15 +36,15 @@ pub fn report_into(
     if lent::too_little(cells.len(), work.len(), result.len(), steps.len()) {
         return planned::refused(1);
     }
-    let p = prepare::prepare(text, cells);
+    let p = prepare::prepare::prepare(text, cells);
     let list = prepared::plan_of(p);
     let query = prepared::query_of(p);
-    let start = prepare::start_of(p);
-    runner::list::put_plan(steps, list);
-    let r = runner::over::run_over(steps, cells, work, query, start);
+    let start = planned::start_of(p);
+    step_list::list::put_plan(steps, list);
+    let r = step_list::over::run_over(steps, cells, work, query, start);
     let h = planned::conclude(cells, work, result, p, r);
     let last = planned::list_of(h);
-    runner::list::put_plan(steps, last);
+    step_list::list::put_plan(steps, last);
     planned::reply_of(h)
 }
 
@@ -55,7 +54,7 @@ pub(crate) fn by_value(r: Reply, steps: [Step; STEPS]) -> Planned
 {
     let answer = r.answer;
     let facts = r.facts;
-    let plan = StepList {
+    let plan = Plan {
         steps,
         count: r.count,
     };

@@ -1,71 +1,53 @@
--- Questions 5 to 10, put to the query: document 01, "Questions, in order". Assumes nothing.
-use mathlib.Core.Bool.{Bool, true, not, _&&_}
+-- Questions 5 to 10, put to the query: document 01, "Questions, in order". Specification 9.7, 9.8, 9.9, 9.10, 9.11, 9.12. Assumes nothing.
+use mathlib.Core.Bool.{Bool, true, _&&_, not}
 use mathlib.Core.List.{List, [], _∷_, _++_}
-use Prim.Native.Nat.{ℕ, suc}
-use lib.Dec.{eqb, leb, ltb}
-use lib.ListN.{length, getD}
+use Prim.Native.Nat.{ℕ}
+use lib.Dec.{ltb, eqb, leb}
+use lib.ListN.{getD, length}
 use Rattle.cells.specs.Limits.{mostWritten}
 use Rattle.cells.specs.declared.condition.Condition.{Condition}
 use Rattle.cells.specs.declared.condition.Side.{Side}
 use Rattle.cells.specs.declared.condition.Side.the-variants.{Column, Constant}
-use Rattle.rows.specs.Lists.{all, any, has}
+use Rattle.rows.specs.Lists.{has, all, any}
 use Rattle.rows.specs.Trees.{Tree, leaf, join, tablesUnder}
 use Rattle.rows.specs.declared.kind.Kind.the-variants.{Inner, Outer, Product}
-use Rattle.plan.specs.Report.{Join, Pair, Query, tableCount, conditionAt, namedBy, joinPairs}
-use Rattle.plan.specs.Nodes.{tablesAt, treeAt, joinNodes, joinTrees}
+use Rattle.vocabulary.specs.Report.{Query, tableCount, joinPairs, Pair, Join, conditionAt, namedBy}
+use Rattle.vocabulary.specs.Nodes.{wellBuilt, tablesAt, joinNodes, treeAt, joinTrees}
+use Rattle.vocabulary.specs.Asking.{Question}
 use Rattle.plan.specs.Sets.{blanksLeft, blanksRight}
-use Rattle.plan.specs.Plan.{Ground, groundOf, crosses, pairFits}
+use Rattle.plan.specs.Plan.{crosses, Ground, pairFits, groundOf}
 
--- ---- 5 and 9: how nodes are joined
+-- ---- 5 and 9: how the joins and the order are built
 
--- whether each side is a lower node than the pair's own, which is node i for the first pair
-unfoldable pub lowerSides : ℕ → List Pair → Bool
-lowerSides i [] = true
-lowerSides i (p ∷ ps) = ltb (p .0) i && ltb (p .1) i && lowerSides (suc i) ps
-
--- the sides of the pairs
-unfoldable pub sidesOf : List Pair → List ℕ
-sidesOf [] = []
-sidesOf (p ∷ ps) = p .0 ∷ p .1 ∷ sidesOf ps
-
--- whether no number stands in the list twice
-unfoldable pub noneTwice : List ℕ → Bool
-noneTwice [] = true
-noneTwice (k ∷ l) = not (has l k) && noneTwice l
-
--- "one .. fewer than tables, each side a lower node than its join, and no node a side twice"
-unfoldable pub wellBuilt : ℕ → List Pair → Bool
-wellBuilt n ps = eqb (suc (length ps)) n && lowerSides n ps && noneTwice (sidesOf ps)
-
--- 5: "Is there one J fewer than tables, each side a lower node than its join, and no node a side twice?"
+-- 5: "Is there one J fewer than tables, each side a lower node than its join, and no node a side twice?" Specification 9.7
 unfoldable pub question5 : Query → Bool
 question5 q = wellBuilt (tableCount q) (joinPairs q)
 
--- whether there are no pairs, or pairs that are well built
+-- whether there are no pairs, or pairs that are well built. Specification 9.11
 unfoldable pub noneOrBuilt : ℕ → List Pair → Bool
 noneOrBuilt n [] = true
 noneOrBuilt n (p ∷ ps) = wellBuilt n (p ∷ ps)
 
--- 9: "Are there no P lines, or one fewer than tables, built as in question 5?"
+-- 9: "Are there no P lines, or one fewer than tables, built as in question 5?" Specification 9.11
 unfoldable pub question9 : Query → Bool
 question9 q = noneOrBuilt (tableCount q) (q .pairs)
 
 -- ---- 6 and 7: the conditions of each join
 
--- whether a column exists, of a table among these
+-- whether a column exists, of a table among these. Specification 9.8
 unfoldable pub columnExists : Query → List ℕ → ℕ → ℕ → Bool
 columnExists q ts t c = has ts t && ltb c (getD (q .columns) t 0)
 
--- whether a condition's second side names an existing column of another table among these
+-- whether a condition's second side names an existing column of another table among these. Specification 9.8
 unfoldable pub sideExists : Query → List ℕ → ℕ → Side → Bool
 sideExists q ts t (Column u c) = columnExists q ts u c && not (eqb t u)
 sideExists q ts t (Constant z) = true
 
--- "naming existing columns of tables under its join, C lines two different tables"
+-- "naming existing columns of tables under its join, C lines two different tables". Specification 9.8
 unfoldable pub conditionFits : Query → List ℕ → Condition → Bool
 conditionFits q ts k = columnExists q ts (k .table) (k .column) && sideExists q ts (k .table) (k .side)
 
--- 6: "Are there at most 32 conditions, each naming existing columns of tables under its join, C lines two different tables?"
+-- 6: "Are there at most 32 conditions, each naming existing columns of tables under its join, C lines two different tables?" Specification 9.8
 unfoldable pub question6 : Query → Bool
 question6 q =
     leb (length (q .conditions)) mostWritten
@@ -74,7 +56,7 @@ question6 q =
     (λ k. conditionFits q (tablesAt (joinNodes q) (j .left) ++ tablesAt (joinNodes q) (j .right)) (conditionAt q k)) (j .conditions))
     (q .joins)
 
--- 7: "Has each join a C line between its left and right side?"
+-- 7: "Has each join a C line between its left and right side?" Specification 9.9
 unfoldable pub question7 : Query → Bool
 question7 q =
     all
@@ -84,19 +66,19 @@ question7 q =
 
 -- ---- 8: simplified
 
--- the tables of the right sides of a tree's outer joins
+-- the tables of the right sides of a tree's outer joins. Specification 9.10
 unfoldable pub rightSides : Tree ℕ → List ℕ
 rightSides (leaf t) = []
 rightSides (join Inner C A B) = rightSides A ++ rightSides B
 rightSides (join Outer C A B) = rightSides A ++ tablesUnder B
 rightSides (join Product C A B) = rightSides A ++ rightSides B
 
--- whether one of these conditions names a table of the right side of an outer join at or below a node
+-- whether one of these conditions names a table of the right side of an outer join at or below a node. Specification 9.10
 unfoldable pub namesRightSide : Query → List ℕ → ℕ → Bool
 namesRightSide q C i = any (has (rightSides (treeAt (joinTrees q) i))) (namedBy q C)
 
 -- 8: "Is the tree simplified: for no outer join does a join above name a table of its right side while blanking the side it lies
--- in (either side of I, the right of L)?"
+-- in (either side of I, the right of L)?" Specification 9.10
 unfoldable pub question8 : Query → Bool
 question8 q =
     all
@@ -106,10 +88,25 @@ question8 q =
 
 -- ---- 10: the kinds of the pairs
 
--- whether the usable conditions of every pair fit one of the four kinds
+-- whether the usable conditions of every pair fit one of the four kinds. Specification 9.12
 unfoldable pub kindsFit : Ground → Bool
 kindsFit g = all (pairFits g) (g .order)
 
--- 10: "At each pair, do the usable conditions fit one of the four kinds?"
+-- 10: "At each pair, do the usable conditions fit one of the four kinds?" Specification 9.12
 unfoldable pub question10 : Query → Bool
 question10 q = kindsFit (groundOf q)
+
+-- ---- the questions in order
+
+-- what the query is asked. Specification 9.7, 9.8, 9.9, 9.10
+unfoldable pub queryQuestions : List (Question Query)
+queryQuestions =
+    (5, λ (q : Query). question5 q)
+    ∷ (6, λ (q : Query). question6 q)
+    ∷ (7, λ (q : Query). question7 q)
+    ∷ (8, λ (q : Query). question8 q)
+    ∷ []
+
+-- what the order is asked: "The direct reading skips 9 and 10". Specification 9.2, 9.11, 9.12
+unfoldable pub orderQuestions : List (Question Query)
+orderQuestions = (9, λ (q : Query). question9 q) ∷ (10, λ (q : Query). question10 q) ∷ []

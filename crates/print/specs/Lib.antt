@@ -1,9 +1,1 @@
-pub mod Output
-pub mod Room
-pub mod Loops
-pub mod Fields
-pub mod Lines
-pub mod Rows
-pub mod Printed
-pub mod PrintedLaws
-pub mod RoomLaws
+pub mod inner

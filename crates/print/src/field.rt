@@ -1,14 +1,14 @@
 // The fields of a line, each behind its tab.
 use crate::output;
 use cells::limits::CONDITIONS;
-use plan::bits;
+use vocabulary::bits;
 ghost use Prim.Native.Nat.{_+_, _≤_, _<_};
 ghost use lib.ListN.{length};
 ghost use mathlib.Core.List.{flatMap};
 ghost use Rattle.text.specs.Print.{digitsOf, bitNumbers};
-ghost use Rattle.print.specs.Output.{Written};
-ghost use Rattle.print.specs.Room.{fieldRoom, bitsRoom};
-ghost use Rattle.print.specs.Fields.{numberField, entryField, bitField};
+ghost use Rattle.print.specs.inner.Output.{Written};
+ghost use Rattle.print.specs.inner.Room.{fieldRoom, bitsRoom};
+ghost use Rattle.print.specs.inner.Fields.{printedNumber, entryField, bitField};
 
 pub const TAB: u8 = b'\t';
 
@@ -37,7 +37,7 @@ fn write_digits(out: &mut [u8], at: usize, most: usize, n: u64) -> usize
 // A number.
 pub(crate) fn write_number(out: &mut [u8], at: usize, n: u64) -> usize
     requires { ⌜ at + fieldRoom ≤ length (now out) ⌝ }
-    ensures { λ r. ⌜ Written (now (out .entry)) at (numberField n) fieldRoom (now (out .exit)) r ⌝ }
+    ensures { λ r. ⌜ Written (now (out .entry)) at (printedNumber n) fieldRoom (now (out .exit)) r ⌝ }
 {
     let next = output::put(out, at, TAB);
     write_digits(out, next, DIGITS, n)
@@ -104,7 +104,7 @@ fn write_bit(out: &mut [u8], at: usize, set: u64, k: u64) -> usize
 // The numbers of the bits that are set.
 pub(crate) fn write_bits(out: &mut [u8], at: usize, set: u64) -> usize
     requires { ⌜ at + bitsRoom ≤ length (now out) ⌝ }
-    ensures { λ r. ⌜ Written (now (out .entry)) at (flatMap numberField (bitNumbers set)) bitsRoom (now (out .exit)) r ⌝ }
+    ensures { λ r. ⌜ Written (now (out .entry)) at (flatMap printedNumber (bitNumbers set)) bitsRoom (now (out .exit)) r ⌝ }
 {
     let mut next = at;
     let mut k: u64 = 0;

@@ -1,4 +1,4 @@
-// The print of a report, written into a lent output buffer.
+// The lines of the print, from the parts of an answer into a lent output buffer.
 pub mod field;
 pub mod line;
 pub mod lines;

@@ -1,16 +1,16 @@
 // The lines of the print.
 use crate::field;
 use crate::output;
-use plan::step::Step;
+use vocabulary::step::Step;
 ghost use mathlib.Core.List.{[], _∷_, _++_, map, flatMap};
 ghost use Prim.Native.Nat.{_+_, _*_, _<_, _≤_};
 ghost use lib.ListN.{length, take, drop};
 ghost use Rattle.cells.specs.Limits.{mostTables};
 ghost use Rattle.text.specs.Bytes.{bytes};
 ghost use Rattle.text.specs.Print.{bitNumbers, printFields, printNumber, kindLetter, printStep, printRow, printRefusal};
-ghost use Rattle.print.specs.Output.{Written};
-ghost use Rattle.print.specs.Room.{fieldRoom, endRoom, tableRoom, kindRoom, bestMatchRoom, stepRoom, rowRoom, refusalRoom};
-ghost use Rattle.print.specs.Fields.{field, entryField};
+ghost use Rattle.print.specs.inner.Output.{Written};
+ghost use Rattle.print.specs.inner.Room.{fieldRoom, endRoom, tableRoom, kindRoom, bestMatchRoom, stepRoom, rowRoom, refusalRoom};
+ghost use Rattle.print.specs.inner.Fields.{printedField, entryField};
 
 // The end of a line: a number, the numbers of the conditions, and the line feed.
 fn write_end(out: &mut [u8], at: usize, number: u64, conditions: u64) -> usize
@@ -43,7 +43,7 @@ const KINDS: [u8; 4] = [b' ', b'I', b'L', b'O'];
 // A pair's letter (I, L, or O for product) behind its tab; the number 0 has none.
 fn write_kind(out: &mut [u8], at: usize, kind: u8) -> usize
     requires { ⌜ (kind ≤ 3) × (at + kindRoom ≤ length (now out)) ⌝ }
-    ensures { λ r. ⌜ Written (now (out .entry)) at (field (kindLetter kind)) kindRoom (now (out .exit)) r ⌝ }
+    ensures { λ r. ⌜ Written (now (out .entry)) at (printedField (kindLetter kind)) kindRoom (now (out .exit)) r ⌝ }
 {
     let next = output::put(out, at, field::TAB);
     if kind == 0 {

@@ -2,15 +2,15 @@
 use crate::line;
 use cells::limits::STEPS;
 use cells::limits::TABLES;
-use plan::step::Step;
+use vocabulary::step::Step;
 ghost use mathlib.Core.List.{flatMap};
 ghost use Prim.Native.Nat.{_+_, _*_, _≤_};
 ghost use lib.ListN.{length, take};
 ghost use Rattle.cells.specs.Limits.{mostTables, mostRows, mostSteps};
 ghost use Rattle.text.specs.Print.{printSets, printStep, printRow};
-ghost use Rattle.print.specs.Output.{Written};
-ghost use Rattle.print.specs.Room.{tableRoom, stepRoom, rowRoom};
-ghost use Rattle.print.specs.Rows.{rowsIn};
+ghost use Rattle.print.specs.inner.Output.{Written};
+ghost use Rattle.print.specs.inner.Room.{tableRoom, stepRoom, rowRoom};
+ghost use Rattle.print.specs.inner.Rows.{resultRows};
 
 // The S lines of the first n tables.
 pub(crate) fn write_sets(out: &mut [u8], at: usize, sets: [u64; TABLES], n: usize) -> usize
@@ -44,7 +44,7 @@ pub(crate) fn write_steps(out: &mut [u8], at: usize, steps: [Step; STEPS], n: us
 // The R lines of so many rows of n entries, which stand one after the other.
 pub(crate) fn write_rows(out: &mut [u8], at: usize, result: &[u16], rows: usize, n: usize) -> usize
     requires { ⌜ (rows ≤ mostRows) × (n ≤ mostTables) × (rows * n ≤ length (now result)) × (at + rowRoom * rows ≤ length (now out)) ⌝ }
-    ensures { λ r. ⌜ Written (now (out .entry)) at (flatMap printRow (rowsIn n rows (now (result .entry)))) (rowRoom * rows) (now (out .exit)) r ⌝ }
+    ensures { λ r. ⌜ Written (now (out .entry)) at (flatMap printRow (resultRows n rows (now (result .entry)))) (rowRoom * rows) (now (out .exit)) r ⌝ }
 {
     let mut next = at;
     let mut from = 0;

@@ -2,7 +2,7 @@
 ghost use mathlib.Core.List.{[], _∷_};
 ghost use Prim.Native.Nat.{_<_};
 ghost use lib.ListN.{length};
-ghost use Rattle.print.specs.Output.{Written};
+ghost use Rattle.print.specs.inner.Output.{Written};
 
 // One byte; the place behind it is returned.
 pub(crate) fn put(out: &mut [u8], at: usize, b: u8) -> usize

@@ -5,18 +5,18 @@ use cells::limits::PRINT_ROOM;
 use cells::limits::ROWS;
 use cells::limits::STEPS;
 use cells::limits::TABLES;
-use plan::facts::Facts;
-use plan::step::Step;
+use vocabulary::facts::Facts;
+use vocabulary::step::Step;
 ghost use mathlib.Core.Bool.{true};
 ghost use mathlib.Core.List.{flatMap};
 ghost use mathlib.Core.Path.{_≡_};
 ghost use Prim.Native.Nat.{_+_, _≤_};
 ghost use lib.ListN.{length, take};
 ghost use Rattle.text.specs.Print.{printRow, printRefusal};
-ghost use Rattle.print.specs.Output.{Written};
-ghost use Rattle.print.specs.Room.{reportRoom};
-ghost use Rattle.print.specs.Rows.{rowsIn};
-ghost use Rattle.print.specs.Printed.{reportBytes, rowsFit, fitting, Fitting, printed, Prints};
+ghost use Rattle.print.specs.inner.Output.{Written};
+ghost use Rattle.print.specs.inner.Room.{reportRoom};
+ghost use Rattle.print.specs.inner.Rows.{resultRows};
+ghost use Rattle.print.specs.inner.Printed.{reportBytes, rowsFit, fitting, Fitting, printIf, Prints};
 
 // What a print answers: the number of its bytes; or that the output is shorter than PRINT_ROOM, or that the counts are not those of
 // an answer, and then nothing is written.
@@ -60,7 +60,8 @@ fn write_report(
     rows: usize,
 ) -> usize
     requires { ⌜ Fitting facts count rows (length (now result)) × (at + reportRoom ≤ length (now out)) ⌝ }
-    ensures { λ r. ⌜ Written (now (out .entry)) at (reportBytes facts (take count steps) (rowsIn (facts .tables) rows (now (result .entry)))) reportRoom (now (out .exit)) r ⌝ }
+    ensures { λ r. ⌜ Written (now (out .entry)) at (reportBytes facts (take count steps)
+        (resultRows (facts .tables) rows (now (result .entry)))) reportRoom (now (out .exit)) r ⌝ }
 {
     let sets = facts.sets;
     let mut next = lines::write_sets(out, at, sets, facts.tables);
@@ -78,9 +79,9 @@ pub fn print_report(
     rows: usize,
 ) -> Printed
     ensures { λ r. ⌜ Prints
-        (printed
+        (printIf
         (fitting facts count rows (length (now (result .entry))))
-        (reportBytes facts (take count steps) (rowsIn (facts .tables) rows (now (result .entry))))
+        (reportBytes facts (take count steps) (resultRows (facts .tables) rows (now (result .entry))))
         (now (out .entry)))
         r
         (now (out .exit)) ⌝ }
@@ -98,9 +99,9 @@ pub fn print_report(
 // The print of an answer of the direct reading.
 pub fn print_direct(out: &mut [u8], result: &[u16], rows: usize, tables: usize) -> Printed
     ensures { λ r. ⌜ Prints
-        (printed
+        (printIf
         (rowsFit tables rows (length (now (result .entry))))
-        (flatMap printRow (rowsIn tables rows (now (result .entry))))
+        (flatMap printRow (resultRows tables rows (now (result .entry))))
         (now (out .entry)))
         r
         (now (out .exit)) ⌝ }
@@ -117,7 +118,7 @@ pub fn print_direct(out: &mut [u8], result: &[u16], rows: usize, tables: usize) 
 
 // The print of a refusal.
 pub fn print_refusal(out: &mut [u8], number: u8) -> Printed
-    ensures { λ r. ⌜ Prints (printed true (printRefusal number) (now (out .entry))) r (now (out .exit)) ⌝ }
+    ensures { λ r. ⌜ Prints (printIf true (printRefusal number) (now (out .entry))) r (now (out .exit)) ⌝ }
 {
     if out.len() < PRINT_ROOM {
         return Printed::NoRoom;

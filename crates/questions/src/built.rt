@@ -1,20 +1,21 @@
 // Questions 5 and 9: how the J lines and the P lines join nodes.
 use cells::limits::JOINS;
 use cells::limits::PAIRS;
-use plan::bits;
 use plan::order;
 use plan::order::Order;
-use plan::query::StoredPair;
-use plan::query::StoredQuery;
+use vocabulary::bits;
+use vocabulary::query::StoredPair;
+use vocabulary::query::StoredQuery;
 ghost use mathlib.Core.Path.{_≡_};
 ghost use mathlib.Core.Bool.{_&&_};
 ghost use Prim.Native.Nat.{_≤_};
 ghost use lib.Dec.{leb};
 ghost use Rattle.cells.specs.Limits.{mostTables, mostJoins, mostPairs};
-ghost use Rattle.plan.specs.Stored.{queryIn, pairIn};
-ghost use Rattle.plan.specs.OrderWords.{orderIn};
-ghost use Rattle.plan.specs.Questions.{wellBuilt, question5, question9};
-ghost use Rattle.questions.specs.BuiltWords.{sideBits, pairFits, builtFrom};
+ghost use Rattle.vocabulary.specs.inner.Stored.{queryIn, pairIn};
+ghost use Rattle.vocabulary.specs.Nodes.{wellBuilt};
+ghost use Rattle.plan.specs.inner.OrderWords.{orderIn};
+ghost use Rattle.plan.specs.Questions.{question5, question9};
+ghost use Rattle.questions.specs.inner.BuiltWords.{sideBits, pairFitsBits, builtFrom};
 
 // The sides of a pair.
 pub fn sides(p: StoredPair) -> u64
@@ -25,7 +26,7 @@ pub fn sides(p: StoredPair) -> u64
 
 // Whether a pair's sides are lower than its own node, differ, and are no sides yet.
 pub fn pair_fits(p: StoredPair, node: u16, used: u64) -> bool
-    ensures { λ r. ⌜ r ≡ pairFits node used (pairIn p) ⌝ }
+    ensures { λ r. ⌜ r ≡ pairFitsBits node used (pairIn p) ⌝ }
 {
     if node <= p.left {
         return false;

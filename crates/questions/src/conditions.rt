@@ -3,20 +3,20 @@ use cells::condition::Condition;
 use cells::condition::Side;
 use cells::limits::NODES;
 use cells::limits::WRITTEN;
-use plan::bits;
 use plan::order;
-use plan::query::StoredQuery;
 use plan::sets;
+use vocabulary::bits;
+use vocabulary::query::StoredQuery;
 ghost use mathlib.Core.Path.{_≡_};
 ghost use mathlib.Core.Bool.{_&&_};
 ghost use Prim.Native.Nat.{_≤_};
 ghost use lib.Dec.{leb};
 ghost use Rattle.cells.specs.Limits.{mostTables, mostJoins, mostWritten, mostConditions};
 ghost use Rattle.rows.specs.Lists.{range, all};
-ghost use Rattle.plan.specs.Report.{conditionAt};
-ghost use Rattle.plan.specs.Stored.{queryIn};
+ghost use Rattle.vocabulary.specs.Report.{conditionAt};
+ghost use Rattle.vocabulary.specs.inner.Stored.{queryIn};
 ghost use Rattle.plan.specs.Questions.{question6};
-ghost use Rattle.questions.specs.ConditionWords.{columnUnder, sideUnder, conditionUnder, numberFits, joinFits};
+ghost use Rattle.questions.specs.inner.ConditionWords.{columnUnder, sideUnder, conditionUnder, numberFits, conditionsUnder};
 
 // The condition of a number; where there is none, one with no operator and of no table.
 pub(crate) fn condition_at(q: StoredQuery, k: usize) -> Condition
@@ -99,7 +99,7 @@ fn line_fits(q: StoredQuery, tables: u64, first: u16, count: u16) -> bool
 // The same of every J line's conditions and the tables under it.
 fn lines_fit(q: StoredQuery, nodes: [u64; NODES]) -> bool
     requires { ⌜ (q .«table_count» ≤ mostTables) × (q .«join_count» ≤ mostJoins) × (q .«condition_count» ≤ mostConditions) ⌝ }
-    ensures { λ r. ⌜ r ≡ all (joinFits (queryIn q) nodes) (queryIn q .joins) ⌝ }
+    ensures { λ r. ⌜ r ≡ all (conditionsUnder (queryIn q) nodes) (queryIn q .joins) ⌝ }
 {
     let n = q.join_count as usize;
     let mut i: usize = 0;

@@ -3,15 +3,15 @@ use crate::conditions;
 use cells::limits::NODES;
 use plan::order;
 use plan::pairs;
-use plan::query::StoredQuery;
 use plan::sets;
+use vocabulary::query::StoredQuery;
 ghost use mathlib.Core.Path.{_≡_};
 ghost use Prim.Native.Nat.{_≤_};
 ghost use Rattle.cells.specs.Limits.{mostTables, mostJoins, mostConditions};
 ghost use Rattle.rows.specs.Lists.{range, all, any};
-ghost use Rattle.plan.specs.Stored.{queryIn};
+ghost use Rattle.vocabulary.specs.inner.Stored.{queryIn};
 ghost use Rattle.plan.specs.Questions.{question7};
-ghost use Rattle.questions.specs.ConditionWords.{numberCrosses, joinCrosses};
+ghost use Rattle.questions.specs.inner.ConditionWords.{numberCrosses, joinCrosses};
 
 // Whether one of the `count` conditions from number `first` on is a C line between two sides of a join.
 fn line_crosses(q: StoredQuery, left: u64, right: u64, first: u16, count: u16) -> bool

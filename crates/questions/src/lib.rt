@@ -1,4 +1,6 @@
-// Questions 5, 6, 7 and 9, put to a query.
+// Questions 5 to 10, put to a query that was read.
 pub mod built;
 pub mod conditions;
 pub mod crossing;
+pub mod kinds;
+pub mod simplified;

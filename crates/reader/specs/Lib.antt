@@ -1,16 +1,1 @@
-pub mod State
-pub mod Steps
-pub mod Survey
-pub mod SurveyLaws
-pub mod Kept
-pub mod Agrees
-pub mod Counts
-pub mod Query
-pub mod Outcome
-pub mod Looked
-pub mod Cells
-pub mod Conditions
-pub mod Ranges
-pub mod Row
-pub mod RowLines
-pub mod Whole
+pub mod inner

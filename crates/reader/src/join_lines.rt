@@ -4,14 +4,14 @@ use cells::condition::Condition;
 use cells::condition::Side;
 use cells::limits::CONDITIONS;
 use cells::limits::JOINS;
-use plan::query::StoredJoin;
 use rows::kind::Kind;
 use text::line::LineRead;
+use vocabulary::query::StoredJoin;
 ghost use mathlib.Core.Path.{_≡_};
 ghost use Prim.Native.Nat.{_+_, _-_, _<_};
 ghost use lib.ListN.{set};
-ghost use Rattle.reader.specs.State.{noJoins, nothing, noConditions, afterJoin, afterCondition};
-ghost use Rattle.reader.specs.Survey.{slotOf, conditionIn};
+ghost use Rattle.reader.specs.inner.State.{noJoins, nothing, noConditions, afterJoin, afterCondition};
+ghost use Rattle.reader.specs.inner.Survey.{conditionPlace, conditionIn};
 
 // The joins before the latest, the latest, and how many conditions there are; these stand in an array of their own.
 pub struct Joins {
@@ -79,7 +79,7 @@ pub(crate) fn no_conditions() -> [Condition; CONDITIONS]
 
 // The place in the array of the condition that a line says, behind `count` of them; past its end where the line says none.
 pub(crate) fn slot(count: u16, x: LineRead) -> usize
-    ensures { λ r. ⌜ r ≡ slotOf count x ⌝ }
+    ensures { λ r. ⌜ r ≡ conditionPlace count x ⌝ }
 {
     match x {
         LineRead::Table(n) => CONDITIONS,

@@ -1,4 +1,5 @@
-// Reading a report text: questions 2, 3 and 4, the query, and the cells.
+// A report text read in one pass over its lines: questions 2, 3 and 4, the query, and the cells in the lent cell buffer.
+pub mod cell_buffer;
 pub mod join_lines;
 pub mod pairs;
 pub mod place;

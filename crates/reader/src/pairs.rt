@@ -1,10 +1,10 @@
 // What the P lines read so far say.
 use cells::limits::PAIRS;
-use plan::query::StoredPair;
+use vocabulary::query::StoredPair;
 ghost use mathlib.Core.Path.{_≡_};
 ghost use Prim.Native.Nat.{_+_, _<_};
 ghost use lib.ListN.{set};
-ghost use Rattle.reader.specs.State.{noPairs, afterPair};
+ghost use Rattle.reader.specs.inner.State.{noPairs, afterPair};
 
 pub struct Pairs {
     pub count: u16,

@@ -1,7 +1,7 @@
 // Where a line stands in a text: question 2 on its place.
 use text::line::LineRead;
 ghost use mathlib.Core.Path.{_≡_};
-ghost use Rattle.reader.specs.Survey.{nextIn, opensAt, followsAt, nextRead};
+ghost use Rattle.reader.specs.inner.Survey.{nextIn, opensAt, followsAt, nextRead};
 
 // The part of the text that the line belongs to; 0 before the first line.
 pub struct Place {

@@ -1,50 +1,50 @@
-// A report text read: questions 2, 3 and 4, the query, and the cells in the lent run. The other questions are put to the query.
+// A report text read: questions 2, 3 and 4, the query, and the cells in the lent cell buffer. The other questions are put to the query.
 use crate::stored;
 use crate::survey;
-use plan::query::StoredQuery;
+use vocabulary::query::StoredQuery;
 ghost use mathlib.Core.Path.{_≡_};
-ghost use Rattle.reader.specs.Outcome.{answerIn, readOutcome, RunAfter};
+ghost use Rattle.reader.specs.inner.Outcome.{answerIn, readOutcome, CellsAfter};
 
 // The number of the question that turned the text down; or accepted.
-pub enum Outcome {
+pub enum ReadOutcome {
     Refused(u8),
     Accepted,
 }
 
 // The query is the text's where it is accepted.
-pub struct Answer {
-    pub outcome: Outcome,
+pub struct ReadAnswer {
+    pub outcome: ReadOutcome,
     pub query: StoredQuery,
 }
 
-// The run begins with the cells, each table's where the previous table's end, where the text is accepted.
-pub fn read(text: &[u8], cells: &mut [i32]) -> Answer
-    ensures { λ r. ⌜ (answerIn r ≡ readOutcome (now (text .entry))) × RunAfter (now (text .entry)) (now (cells .entry)) (now (cells .exit)) ⌝ }
+// The cell buffer begins with the cells, each table's where the previous table's end, where the text is accepted.
+pub fn read(text: &[u8], cells: &mut [i32]) -> ReadAnswer
+    ensures { λ r. ⌜ (answerIn r ≡ readOutcome (now (text .entry))) × CellsAfter (now (text .entry)) (now (cells .entry)) (now (cells .exit)) ⌝ }
 {
     let s = survey::survey(text, cells);
     let reading = s.reading;
     let query = stored::stored(reading);
     if !s.accepted {
-        return Answer {
-            outcome: Outcome::Refused(2),
+        return ReadAnswer {
+            outcome: ReadOutcome::Refused(2),
             query: query,
         };
     }
     let t = reading.tables;
     if !stored::tables_fit(t) {
-        return Answer {
-            outcome: Outcome::Refused(3),
+        return ReadAnswer {
+            outcome: ReadOutcome::Refused(3),
             query: query,
         };
     }
     if !t.even {
-        return Answer {
-            outcome: Outcome::Refused(4),
+        return ReadAnswer {
+            outcome: ReadOutcome::Refused(4),
             query: query,
         };
     }
-    Answer {
-        outcome: Outcome::Accepted,
+    ReadAnswer {
+        outcome: ReadOutcome::Accepted,
         query: query,
     }
 }

@@ -1,4 +1,4 @@
-// The query that the lines of a text say, and questions 3 and 4.
+// The query that the lines of a text say, and question 3; `read` asks question 4.
 use crate::join_lines;
 use crate::survey::Reading;
 use crate::tables;
@@ -6,9 +6,9 @@ use crate::tables::Tables;
 use cells::limits::CELLS;
 use cells::limits::ROWS;
 use cells::limits::TABLES;
-use plan::query::StoredQuery;
+use vocabulary::query::StoredQuery;
 ghost use mathlib.Core.Path.{_≡_};
-ghost use Rattle.reader.specs.Query.{storedOf, tablesFit};
+ghost use Rattle.reader.specs.inner.Query.{storedOf, tablesFit};
 
 // The latest table's rows and the latest join are put into their arrays.
 pub fn stored(s: Reading) -> StoredQuery

@@ -1,4 +1,5 @@
 // One pass over the lines of a text: question 2, what questions 3 to 9 are asked about, and the cells.
+use crate::cell_buffer;
 use crate::join_lines;
 use crate::join_lines::Joins;
 use crate::pairs;
@@ -13,7 +14,6 @@ use crate::tables::Tables;
 use cells::condition::Condition;
 use cells::limits::BYTES;
 use cells::limits::CONDITIONS;
-use load::cell_run;
 use text::line;
 use text::line::LineRead;
 use text::part;
@@ -23,10 +23,10 @@ ghost use Prim.Native.Nat.{_+_, _<_, _≤_};
 ghost use lib.ListN.{length, drop};
 ghost use Rattle.cells.specs.Limits.{mostBytes};
 ghost use Rattle.text.specs.Bytes.{lineFeed};
-ghost use Rattle.text.specs.Parts.{until};
-ghost use Rattle.load.specs.Run.{LaidTo};
-ghost use Rattle.reader.specs.Survey.{readingOf, tablesTold, joinsTold, pairsTold};
-ghost use Rattle.reader.specs.RowLines.{RowsTo, Surveyed};
+ghost use Rattle.text.specs.inner.Parts.{until};
+ghost use Rattle.reader.specs.inner.CellBuffer.{LaidTo};
+ghost use Rattle.reader.specs.inner.Survey.{start, readingOf, tablesTold, joinsTold, pairsTold};
+ghost use Rattle.reader.specs.inner.RowLines.{RowsTo, Surveyed};
 
 // The place of the latest line, and what the lines of each part said so far.
 pub struct Reading {
@@ -37,7 +37,7 @@ pub struct Reading {
     pub pairs: Pairs,
 }
 
-// The reading of a text, or refused: then the reading says nothing.
+// The reading of a text, or refused: then the reading is that of no line.
 pub struct Stepped {
     pub accepted: bool,
     pub reading: Reading,
@@ -45,7 +45,7 @@ pub struct Stepped {
 
 // A text that question 2 turns down.
 fn refused() -> Stepped
-    ensures { λ r. ⌜ r .accepted ≡ false ⌝ }
+    ensures { λ r. ⌜ (r .accepted ≡ false) × (r .reading ≡ start) ⌝ }
 {
     let tables = tables::no_tables();
     let joins = join_lines::no_joins();
@@ -130,7 +130,7 @@ fn with_pair(q: Pairs, x: LineRead) -> Pairs
     }
 }
 
-// Behind a line from `at` to `to` that has place `p`: its cells are put into the run, and the D lines after it are read.
+// Behind a line from `at` to `to` that has place `p`: its cells are put into the cell buffer, and the D lines after it are read.
 fn behind_line(
     text: &[u8],
     at: usize,
@@ -142,9 +142,10 @@ fn behind_line(
 ) -> RowsRead
     requires { ⌜ (to ≡ at + until lineFeed (drop at (now text))) × (at ≤ to) × (to < length (now text)) × (length (now text) ≤ mostBytes) × (t .rows ≤ to + 1)
         × (out ≤ at) × LaidTo (now text) at (now cells) out ⌝ }
-    ensures { λ r. ⌜ RowsTo (now (text .entry)) (p .part) (to + 1) t (r .at) (r .tables) × (r .out ≤ r .at) × LaidTo (now (text .entry)) (r .at) (now (cells .exit)) (r .out) ⌝ }
+    ensures { λ r. ⌜ RowsTo (now (text .entry)) (p .part) (to + 1) t (r .at) (r .tables) × (r .out ≤ r .at)
+        × LaidTo (now (text .entry)) (r .at) (now (cells .exit)) (r .out) ⌝ }
 {
-    let next = cell_run::put_line(&text[at..to], cells, out);
+    let next = cell_buffer::put_line(&text[at..to], cells, out);
     if p.part != place::TABLES {
         return RowsRead {
             at: to + 1,
@@ -195,7 +196,7 @@ fn read_lines(text: &[u8], cells: &mut [i32]) -> Stepped
     passed(place, tables, joins, conditions, pairs)
 }
 
-// The whole text, or refused by question 2. The run begins with the text's cells where the text is not refused.
+// The whole text, or refused by question 2. The cell buffer begins with the text's cells where the text is not refused.
 pub fn survey(text: &[u8], cells: &mut [i32]) -> Stepped
     ensures { λ r. ⌜ Surveyed (now (text .entry)) (now (cells .exit)) r ⌝ }
 {

@@ -8,7 +8,7 @@ ghost use mathlib.Core.Path.{_≡_};
 ghost use Prim.Native.Nat.{_+_, _-_, _<_};
 ghost use mathlib.Core.Bool.{_&&_};
 ghost use lib.Dec.{eqb};
-ghost use Rattle.reader.specs.State.{noTables, tableFits, closedRows, openedTable, afterTable, cellsAfter, afterRow, withCounts};
+ghost use Rattle.reader.specs.inner.State.{noTables, tableFitsSoFar, closedRows, openedTable, afterTable, cellsAfter, afterRow, withTableCounts};
 
 // The layout has the tables before the latest in full; the latest one's rows are put there when it ends. `fits` is question 3's
 // answer on the tables' columns and on the rows of those before the latest, `even` question 4's on the rows so far.
@@ -43,7 +43,7 @@ pub fn no_tables() -> Tables
 
 // Question 3's answer on one table more, with the rows of the one before it.
 pub fn table_fits(fits: bool, rows: u16, columns: u16) -> bool
-    ensures { λ r. ⌜ r ≡ tableFits fits rows columns ⌝ }
+    ensures { λ r. ⌜ r ≡ tableFitsSoFar fits rows columns ⌝ }
 {
     if ROWS < (rows as usize) {
         return false;
@@ -153,7 +153,7 @@ pub(crate) fn after_row(s: Tables, n: usize) -> Tables
 
 // The tables with other counts: of the latest one's rows, of all cells, and question 4's answer.
 pub(crate) fn with_counts(s: Tables, rows: u16, cells: usize, even: bool) -> Tables
-    ensures { λ r. ⌜ r ≡ withCounts s rows cells even ⌝ }
+    ensures { λ r. ⌜ r ≡ withTableCounts s rows cells even ⌝ }
 {
     let mut next = s;
     next.rows = rows;

@@ -1,4 +1,4 @@
-// Prints the report of the text on standard input.
+// Program `report`: prints the report of the text on standard input.
 use cells::limits::BYTES;
 use cells::limits::CELL_ROOM;
 use cells::limits::PRINT_ROOM;
@@ -20,9 +20,18 @@ fn main() {
     let mut work = [0u16; WORK_ROOM];
     let mut result = [0u16; RESULT_ROOM];
     let mut out = [0u8; PRINT_ROOM];
-    let p = program::report::print_report(&text[..n], &mut cells, &mut work, &mut result, &mut out);
+    let p = print_call::report::print_report(
+        &text[..n],
+        &mut cells,
+        &mut work,
+        &mut result,
+        &mut out,
+    );
     let Printed::Bytes(m) = p else {
         return;
     };
-    io::write_all(1, &out[..m]);
+    if !io::write_all(1, &out[..m]) {
+        let message = *b"report: standard output cannot be written\n";
+        io::write_all(2, &message);
+    }
 }

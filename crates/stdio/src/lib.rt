@@ -1,6 +1,6 @@
 // Standard input read to its end, for the programs.
 ghost use lib.ListN.{length};
-ghost use Rattle.stdio.specs.Input.{Within};
+ghost use Rattle.stdio.specs.inner.Input.{Within};
 
 // The bytes that were read, at the buffer's front; or a read failed.
 pub enum Input {

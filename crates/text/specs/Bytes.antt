@@ -1,4 +1,4 @@
--- Bytes, and the parts of a text between separators: document 01, "Report text". Assumes nothing.
+-- Bytes, and the parts of a text between separators: document 01, "Report text". Specification 2.1, 2.2. Assumes nothing.
 use mathlib.Core.Bool.{Bool, true, false, _&&_}
 use mathlib.Core.List.{List, [], _∷_}
 use mathlib.Core.Option.{Option, none, some}
@@ -7,18 +7,20 @@ use Prim.Native.Char.{code}
 use Prim.Native.String.{String, [] as []ˢ, _∷_ as _∷ˢ_}
 use lib.Dec.{eqb}
 
+-- Specification 2.1
 abbrev pub Bytes : Type 0
 Bytes = List ℕ
 
--- a word's ASCII bytes
+-- a word's ASCII bytes. Specification 2.2
 unfoldable pub bytes : String → Bytes
 bytes []ˢ = []
 bytes (c ∷ˢ s) = code c ∷ bytes s
 
--- the separators of fields and of lines
+-- the separators of fields and of lines. Specification 2.2
 unfoldable pub tab : ℕ
 tab = 9
 
+-- Specification 2.1
 unfoldable pub lineFeed : ℕ
 lineFeed = 10
 
@@ -35,12 +37,12 @@ cut true b parts = [] ∷ parts
 cut false b [] = (b ∷ []) ∷ []
 cut false b (p ∷ parts) = (b ∷ p) ∷ parts
 
--- the parts between separators: one more than there are separators
+-- the parts between separators: one more than there are separators. Specification 2.1, 2.2
 unfoldable pub split : ℕ → Bytes → List Bytes
 split separator [] = [] ∷ []
 split separator (b ∷ bs) = cut (eqb b separator) b (split separator bs)
 
--- "lines, each closed by a line feed": all parts but the last, which must be empty
+-- "lines, each closed by a line feed": all parts but the last, which must be empty. Specification 2.1
 unfoldable pub closed : List Bytes → Option (List Bytes)
 closed [] = none
 closed ([] ∷ []) = some []

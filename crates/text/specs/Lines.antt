@@ -1,4 +1,4 @@
--- The form of each kind of line: document 01, "Report text". A form reads the fields of a line from the left, each once.
+-- The form of each kind of line: document 01, "Report text". A form reads the fields of a line from the left, each once. Specification 2.7.
 -- Assumes nothing.
 use mathlib.Core.List.{List, [], _∷_}
 use mathlib.Core.Option.{Option, none, some}
@@ -10,32 +10,34 @@ use Rattle.cells.specs.declared.condition.Condition.{Condition}
 use Rattle.cells.specs.declared.condition.Side.the-variants.{Column, Constant}
 use Rattle.rows.specs.declared.kind.Kind.{Kind}
 use Rattle.rows.specs.declared.kind.Kind.the-variants.{Inner, Outer}
-use Rattle.text.specs.Bytes.{Bytes, bytes, tab, lineFeed, sameBytes, split, closed}
-use Rattle.text.specs.Numbers.{small, constant, cell}
+use Rattle.text.specs.Bytes.{Bytes, bytes, sameBytes, tab, split, lineFeed, closed}
+use Rattle.text.specs.Numbers.{small, cell, constant}
 
--- the kinds of a J line: "`I` (inner) or `L` (left outer, left side preserved)"
+-- the kinds of a J line: "`I` (inner) or `L` (left outer, left side preserved)". Specification 2.7
 pub data JoinKind : Type 0 where
   innerJoin leftOuterJoin : JoinKind
 
+-- Specification 2.7
 unfoldable pub kindOf : JoinKind → Kind
 kindOf innerJoin = Inner
 kindOf leftOuterJoin = Outer
 
 -- a line and what it says, by the part of the text that it belongs to: "All T and D lines come first, then each J with its C and K
--- lines, then P lines". T has its count of columns, D its cells
+-- lines, then P lines". T has its count of columns, D its cells. Specification 2.7, 2.8
 pub data TableLine : Type 0 where
   tableLine : ℕ → TableLine
   rowLine : List ℤ → TableLine
 
--- J has its kind and sides, C or K its condition
+-- J has its kind and sides, C or K its condition. Specification 2.7, 2.8
 pub data JoinLine : Type 0 where
   joinLine : JoinKind → ℕ → ℕ → JoinLine
   conditionLine : Condition → JoinLine
 
--- P has its two nodes
+-- P has its two nodes. Specification 2.7, 2.8
 pub data OrderLine : Type 0 where
   orderLine : ℕ → ℕ → OrderLine
 
+-- Specification 2.8
 pub data Line : Type 0 where
   tablesPart : TableLine → Line
   joinsPart : JoinLine → Line
@@ -65,7 +67,7 @@ unfoldable pub oneOf : {A : Type 0} → List (String × A) → Bytes → Option 
 oneOf [] x = none
 oneOf (w ∷ ws) x = if sameBytes x (bytes (w .0)) then some (w .1) else oneOf ws x
 
--- the line ends here
+-- the line ends here. Specification 2.7
 unfoldable pub end : {A : Type 0} → A → Form A
 end a [] = some (a, [])
 end a (x ∷ fs) = none
@@ -82,44 +84,44 @@ readAll f (x ∷ l) = both (f x) (readAll f l)
 
 -- ---- fields
 
--- the letter that opens a line
+-- the letter that opens a line. Specification 2.7
 unfoldable pub word : String → Form Unit
 word w = field (oneOf ((w, tt) ∷ []))
 
--- a table, column or node field, or T's count
+-- a table, column or node field, or T's count. Specification 2.4
 unfoldable pub numberField : Form ℕ
 numberField = field small
 
--- the kind of a J line
+-- the kind of a J line. Specification 2.7
 unfoldable pub kindField : Form JoinKind
 kindField = field (oneOf (("I", innerJoin) ∷ ("L", leftOuterJoin) ∷ []))
 
--- "codes `<` 1, `=` 2, `<=` 3, `>` 4, `<>` 5, `>=` 6"
+-- "codes `<` 1, `=` 2, `<=` 3, `>` 4, `<>` 5, `>=` 6". Specification 2.6, 4.2
 unfoldable pub operatorField : Form ℕ
 operatorField = field (oneOf (("<", 1) ∷ ("=", 2) ∷ ("<=", 3) ∷ (">", 4) ∷ ("<>", 5) ∷ (">=", 6) ∷ []))
 
--- "cells, at least one"
+-- "cells, at least one". Specification 2.7
 unfoldable pub cellFields : Form (List ℤ)
 cellFields [] = none
 cellFields (x ∷ fs) = elim (readAll cell (x ∷ fs)) [ none ↦ none | some zs ↦ some (zs, []) ]
 
 -- ---- lines
 
--- "`T` columns: opens a table"
+-- "`T` columns: opens a table". Specification 2.7
 unfoldable pub formT : Form TableLine
 formT = do
   word "T"
   n ← numberField
   end (tableLine n)
 
--- "`D` cells, at least one: one row of the latest table"
+-- "`D` cells, at least one: one row of the latest table". Specification 2.7
 unfoldable pub formD : Form TableLine
 formD = do
   word "D"
   zs ← cellFields
   end (rowLine zs)
 
--- "`J` kind left right"
+-- "`J` kind left right". Specification 2.7
 unfoldable pub formJ : Form JoinLine
 formJ = do
   word "J"
@@ -128,7 +130,7 @@ formJ = do
   r ← numberField
   end (joinLine k l r)
 
--- "`C` table column operator table column: a condition of the latest join"
+-- "`C` table column operator table column: a condition of the latest join". Specification 2.7
 unfoldable pub formC : Form JoinLine
 formC = do
   word "C"
@@ -139,7 +141,7 @@ formC = do
   d ← numberField
   end (conditionLine (record { table = t; column = c; operator = o; side = Column u d }))
 
--- "`K` table column operator number: the same with a constant in a cell's range"
+-- "`K` table column operator number: the same with a constant in a cell's range". Specification 2.7
 unfoldable pub formK : Form JoinLine
 formK = do
   word "K"
@@ -149,7 +151,7 @@ formK = do
   z ← field constant
   end (conditionLine (record { table = t; column = c; operator = o; side = Constant z }))
 
--- "`P` left right: one pair of the joining order"
+-- "`P` left right: one pair of the joining order". Specification 2.7
 unfoldable pub formP : Form OrderLine
 formP = do
   word "P"
@@ -167,16 +169,16 @@ unfoldable pub inPart : {A : Type 0} → (A → Line) → Option A → Option Li
 inPart part none other = other
 inPart part (some x) other = some (part x)
 
--- the line that fields say
+-- the line that fields say. Specification 2.7
 unfoldable pub lineBy : List Bytes → Option Line
 lineBy fs =
     inPart tablesPart (firstOf (formT ∷ formD ∷ []) fs)
     (inPart joinsPart (firstOf (formJ ∷ formC ∷ formK ∷ []) fs) (inPart orderPart (firstOf (formP ∷ []) fs) none))
 
--- "fields parted by one tab"
+-- "fields parted by one tab". Specification 2.2
 unfoldable pub lineOf : Bytes → Option Line
 lineOf bs = lineBy (split tab bs)
 
--- the lines of a text, if every one is closed and has a form
+-- the lines of a text, if every one is closed and has a form. Specification 2.1, 2.7
 unfoldable pub linesOf : Bytes → Option (List Line)
 linesOf bs = elim (closed (split lineFeed bs)) [ none ↦ none | some ls ↦ readAll lineOf ls ]

@@ -1,53 +1,53 @@
--- The lines of the print: document 01, "The whole print of one report". Assumes nothing.
+-- The lines of the print: document 01, "The whole print of one report". Specification 11.2. Assumes nothing.
 use mathlib.Core.Bool.{true, false}
-use mathlib.Core.List.{List, [], _∷_, _++_, map}
+use mathlib.Core.List.{[], _∷_, _++_, List, map}
 use Prim.Native.Nat.{ℕ, zero, suc, _+_, _/_, _%_}
-use lib.Dec.{eqb, leb}
+use lib.Dec.{leb, eqb}
 use lib.ListN.{getD}
 use Rattle.cells.specs.Choice.{if_then_else_}
 use Rattle.cells.specs.Limits.{mostConditions}
-use Rattle.cells.specs.Row.{Row, blankRow}
+use Rattle.cells.specs.Row.{blankRow, Row}
 use Rattle.rows.specs.Lists.{range, keep}
-use Rattle.plan.specs.Bits.{hasBit}
-use Rattle.plan.specs.declared.step.Step.{Step}
-use Rattle.text.specs.Bytes.{Bytes, bytes, tab, lineFeed}
+use Rattle.vocabulary.specs.Bits.{hasBit}
+use Rattle.vocabulary.specs.declared.step.Step.{Step}
+use Rattle.text.specs.Bytes.{Bytes, tab, lineFeed, bytes}
 
 -- ---- fields
 
--- the decimal digits of a number of at most so many digits
+-- the decimal digits of a number of at most so many digits. Specification 11.2
 unfoldable pub digitsOf : ℕ → ℕ → Bytes
 digitsOf zero n = []
 digitsOf (suc most) n = elim (leb n 9) [ true ↦ (48 + n) ∷ [] | false ↦ digitsOf most (n / 10) ++ ((48 + n % 10) ∷ []) ]
 
--- a number of the print, which has at most five digits
+-- a number of the print, which has at most five digits. Specification 11.2
 unfoldable pub printNumber : ℕ → Bytes
 printNumber n = digitsOf 5 n
 
--- a line: its letter, its fields each behind a tab, and the line feed
+-- a line: its letter, its fields each behind a tab, and the line feed. Specification 11.2
 unfoldable pub printFields : List Bytes → Bytes
 printFields [] = lineFeed ∷ []
 printFields (f ∷ fs) = (tab ∷ f) ++ printFields fs
 
--- the numbers of the bits that are set
+-- the numbers of the bits that are set. Specification 6.6, 11.3
 unfoldable pub bitNumbers : ℕ → List ℕ
 bitNumbers m = keep (hasBit m) (range 0 mostConditions)
 
--- "a row number or blank (.. `-` in text)"
+-- "a row number or blank (.. `-` in text)". Specification 11.2
 unfoldable pub printEntry : ℕ → Bytes
 printEntry x = if eqb x blankRow then bytes "-" else printNumber x
 
 -- ---- lines
 
--- "S: table, its set", from a table on; a set is given as bits
+-- "S: table, its set", from a table on; a set is given as bits. Specification 11.2
 unfoldable pub printSets : ℕ → List ℕ → Bytes
 printSets t [] = []
 printSets t (s ∷ S) = bytes "S" ++ printFields (map printNumber (t ∷ bitNumbers s)) ++ printSets (suc t) S
 
--- "kind (I, L, or O for product)"
+-- "kind (I, L, or O for product)". Specification 11.2
 unfoldable pub kindLetter : ℕ → Bytes
 kindLetter k = getD ([] ∷ bytes "I" ∷ bytes "L" ∷ bytes "O" ∷ []) k []
 
--- "M: kind .., two nodes .., rows of that result, conditions. B: table, conditions. Z: best match"
+-- "M: kind .., two nodes .., rows of that result, conditions. B: table, conditions. Z: best match". Specification 10.13, 11.2
 unfoldable pub printStep : Step → Bytes
 printStep s =
     if leb (s .kind) 3
@@ -56,10 +56,10 @@ printStep s =
     else if eqb (s .kind) 4 then bytes "B" ++ printFields (map printNumber (s .first ∷ bitNumbers (s .conditions)))
     else bytes "Z" ++ printFields []
 
--- "R: row"
+-- "R: row". Specification 11.2
 unfoldable pub printRow : Row → Bytes
 printRow row = bytes "R" ++ printFields (map printEntry row)
 
--- "A refusal prints only `E|`number"
+-- "A refusal prints only `E|`number". Specification 11.4
 unfoldable pub printRefusal : ℕ → Bytes
 printRefusal n = bytes "E" ++ printFields (printNumber n ∷ [])

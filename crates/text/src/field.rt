@@ -5,12 +5,12 @@ use crate::part;
 use cells::cell::Made;
 use rows::kind::Kind;
 ghost use mathlib.Core.Path.{_≡_};
-ghost use Rattle.text.specs.Parts.{fieldsFrom};
-ghost use Rattle.text.specs.Numbers.{constant};
 ghost use mathlib.Core.List.{[], _∷_};
+ghost use Rattle.text.specs.inner.Parts.{fieldsFrom};
+ghost use Rattle.text.specs.Numbers.{constant};
 ghost use Rattle.text.specs.Lines.{field, numberField, operatorField, kindField};
-ghost use Rattle.text.specs.Fields.{operatorRead, pairField, storedKind};
-ghost use Rattle.text.specs.FieldAnswers.{codeIn, numberAt, pairAt, operatorAt, kindAt, constantAt};
+ghost use Rattle.text.specs.inner.Fields.{operatorRead, pairField, storedKind};
+ghost use Rattle.text.specs.inner.FieldAnswers.{codeIn, numberAt, pairAt, operatorAt, kindAt, constantAt};
 
 // The bytes of operators.
 const LESS: u8 = 60;

@@ -1,4 +1,4 @@
-// The report text and the print.
+// The bytes of a report text: its lines, their fields, and the numbers in them.
 pub mod field;
 pub mod line;
 pub mod number;

@@ -12,9 +12,9 @@ use cells::condition::Condition;
 use cells::condition::Side;
 use rows::kind::Kind;
 ghost use mathlib.Core.Path.{_≡_};
-ghost use Rattle.text.specs.Parts.{fieldsFrom};
+ghost use Rattle.text.specs.inner.Parts.{fieldsFrom};
 ghost use Rattle.text.specs.Lines.{tablesPart, joinsPart, orderPart, lineOf};
-ghost use Rattle.text.specs.Forms.{lineRead, formRead, tableForm, rowForm, joinForm, columnForm, constantForm, orderForm};
+ghost use Rattle.text.specs.inner.Forms.{lineRead, formRead, tableForm, rowForm, joinForm, columnForm, constantForm, orderForm};
 
 // What a line says: of a D line, how many cells it has.
 pub enum LineRead {

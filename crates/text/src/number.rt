@@ -4,9 +4,9 @@ use cells::cell::Made;
 ghost use mathlib.Core.Path.{_≡_};
 ghost use Prim.Native.Nat.{_≤_};
 ghost use Rattle.text.specs.Numbers.{natural, small, positive, negative, ifMade, constant, cell};
-ghost use Rattle.text.specs.Digits.{atMost};
-ghost use Rattle.text.specs.Ranges.{ranged};
-ghost use Rattle.text.specs.Answers.{naturalIn, smallIn};
+ghost use Rattle.text.specs.inner.Digits.{atMost};
+ghost use Rattle.text.specs.inner.Ranges.{withinRange};
+ghost use Rattle.text.specs.inner.Answers.{naturalIn, smallIn};
 
 // A number without a sign.
 pub enum Natural {
@@ -85,7 +85,7 @@ const MAGNITUDE: u64 = 4294967295;
 
 // The whole of `f` as a number that is not negative; what is no number is as one out of a cell's range.
 pub fn positive_number(f: &[u8]) -> Made
-    ensures { λ r. ⌜ ifMade r ≡ ranged (positive (natural (now (f .entry)))) ⌝ }
+    ensures { λ r. ⌜ ifMade r ≡ withinRange (positive (natural (now (f .entry)))) ⌝ }
 {
     let n = natural_within(f, MAGNITUDE);
     let Natural::Value(v) = n else {
@@ -96,7 +96,7 @@ pub fn positive_number(f: &[u8]) -> Made
 
 // The whole of `f` as what stands behind a minus sign.
 pub fn negative_number(f: &[u8]) -> Made
-    ensures { λ r. ⌜ ifMade r ≡ ranged (negative (natural (now (f .entry)))) ⌝ }
+    ensures { λ r. ⌜ ifMade r ≡ withinRange (negative (natural (now (f .entry)))) ⌝ }
 {
     let n = natural_within(f, MAGNITUDE);
     let Natural::Value(v) = n else {

@@ -2,7 +2,7 @@
 ghost use mathlib.Core.Path.{_≡_};
 ghost use Prim.Native.Nat.{_+_, _≤_};
 ghost use lib.ListN.{length, drop};
-ghost use Rattle.text.specs.Parts.{until};
+ghost use Rattle.text.specs.inner.Parts.{until};
 
 // The separator of fields, and what closes a line.
 pub const TAB: u8 = 9;

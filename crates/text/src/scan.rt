@@ -3,7 +3,7 @@ use cells::cell::Cell;
 ghost use mathlib.Core.Path.{_≡_};
 ghost use Prim.Native.Nat.{_<_, _≤_};
 ghost use lib.ListN.{length, getD};
-ghost use Rattle.text.specs.Scan.{mostMagnitude, DigitsStand, CellStands};
+ghost use Rattle.text.specs.inner.Scan.{mostMagnitude, DigitsStand, CellStands, SignAlone};
 
 // A cell, and the place behind its last byte.
 pub enum CellAt {
@@ -56,7 +56,7 @@ fn read_on(text: &[u8], from: usize, first: u64) -> Digits
 // A cell whose first byte is a minus sign: a number below 0, or blank. A 0 behind the sign is no part of the cell.
 fn minus_at(text: &[u8], from: usize) -> CellAt
     requires { ⌜ (from < length (now text)) × (getD (now text) from 0 ≡ 45) ⌝ }
-    ensures { λ r. ⌜ CellStands (now (text .entry)) from r ⌝ }
+    ensures { λ r. ⌜ CellStands (now (text .entry)) from r × SignAlone (now (text .entry)) from r ⌝ }
 {
     let next = from + 1;
     if text.len() <= next {

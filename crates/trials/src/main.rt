@@ -1,15 +1,16 @@
-// Texts from standard input. Each is a name, `#`, the text and `$`; for each both exported routines are called, and each call has its
-// line. Where a name begins with `=`, the answers are printed too. What follows that mark, or begins the name, chooses the lent memory:
-// `-` and c, w, r or s, the cell run, the work buffer, the result buffer or the step list one shorter than question 1 wants; `+`, all
-// of them larger; anything else, what question 1 wants.
+// Puts texts to both exported routines and looks at all lent memory behind each call. `tests/trials/build` makes its input, the file
+// `stdin`, from `tests/trials/list`. Each text of `stdin` is a name, `#`, the text and `$`; each call has its line. Where a name begins
+// with `=`, the answers are printed too. What follows that mark, or begins the name, chooses the lent memory: `-` and c, w, r or s, the
+// cell buffer, the work buffer, the result buffer or the step list one shorter than question 1 wants; `+`, all of them larger; anything
+// else, what question 1 wants.
 use cells::limits::CELL_ROOM;
 use cells::limits::PRINT_ROOM;
 use cells::limits::RESULT_ROOM;
 use cells::limits::STEP_ROOM;
 use cells::limits::WORK_ROOM;
 use text::part;
-use trial::calls;
-use trial::listed::LIST;
+use trial_calls::calls;
+use trial_calls::listed::LIST;
 ghost use Prim.Native.Nat.{_≤_};
 
 // What ends a name, and what ends a text.

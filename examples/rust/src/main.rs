@@ -2,48 +2,87 @@
 //!
 //!     rows [--print] FILE
 //!
-//! A row is written as in the print: R and, for each table, a row number or - behind a tab. Exit status 1: the text
-//! was refused, and E with the number is printed.
+//! To build and run it, at the top of the repository:
+//!
+//!     rt staticlib capi
+//!     cargo run --release --manifest-path examples/rust/Cargo.toml -- samples/week.in
+//!
+//! A row is written as in the print: R and, for each table, a row number or - behind a tab.
+//!
+//! Exit status 0: an answer was printed. 1: the text was refused, and E with the number was printed. 2: the arguments
+//! are wrong, the file could not be read, or the print could not be written; one line on standard error says which.
 
-use rumbethola::{BLANK, Engine};
-use std::io::Write;
+use rumbethola::{BLANK, Engine, TEXT};
+use std::ffi::{OsStr, OsString};
+use std::fs::File;
+use std::io::{Read, Result, Write, stderr, stdout};
 use std::process::ExitCode;
 
+const REFUSED: u8 = 1;
+const FAILED: u8 = 2;
+
 fn main() -> ExitCode {
-    let arguments: Vec<String> = std::env::args().skip(1).collect();
-    let arguments: Vec<&str> = arguments.iter().map(String::as_str).collect();
-    let (whole, path) = match arguments[..] {
-        ["--print", path] => (true, path),
-        [path] => (false, path),
-        _ => {
-            eprintln!("usage: rows [--print] FILE");
-            return ExitCode::from(2);
-        }
+    let arguments: Vec<OsString> = std::env::args_os().skip(1).collect();
+    let (whole, path) = match &arguments[..] {
+        [option, path] if option == "--print" => (true, path),
+        [path] if path != "--print" => (false, path),
+        _ => return failed("usage: rows [--print] FILE".into()),
     };
-    let text = match std::fs::read(path) {
+    let text = match read(path) {
         Ok(text) => text,
-        Err(error) => {
-            eprintln!("{path}: {error}");
-            return ExitCode::from(2);
-        }
+        Err(error) => return failed(format!("{}: {error}", path.display())),
     };
     let mut engine = Engine::new();
-    if whole {
-        let written = std::io::stdout().write_all(engine.print_report(&text));
-        return if written.is_ok() { ExitCode::SUCCESS } else { ExitCode::from(2) };
+    let mut print = vec![];
+    let refused = if whole {
+        print.extend(engine.print_report(&text));
+        print.starts_with(b"E")
+    } else {
+        add_rows(&mut engine, &text, &mut print)
+    };
+    match write(&print) {
+        Err(error) => failed(format!("standard output: {error}")),
+        Ok(()) if refused => ExitCode::from(REFUSED),
+        Ok(()) => ExitCode::SUCCESS,
     }
-    match engine.report(&text) {
+}
+
+/// The bytes of a file, and of a longer one a byte more than a text may have, so that it is refused as such.
+fn read(path: &OsStr) -> Result<Vec<u8>> {
+    let mut text = vec![];
+    File::open(path)?.take(TEXT as u64 + 1).read_to_end(&mut text)?;
+    Ok(text)
+}
+
+/// Adds the R lines or the E line to a print, and tells whether the text was refused.
+fn add_rows(engine: &mut Engine, text: &[u8], print: &mut Vec<u8>) -> bool {
+    match engine.report(text) {
         Ok(report) => {
             for row in report.rows() {
-                let fields: Vec<String> =
-                    row.iter().map(|&number| if number == BLANK { "-".into() } else { number.to_string() }).collect();
-                println!("R\t{}", fields.join("\t"));
+                print.push(b'R');
+                for &number in row {
+                    let field = if number == BLANK { "-".into() } else { number.to_string() };
+                    print.push(b'\t');
+                    print.extend(field.bytes());
+                }
+                print.push(b'\n');
             }
-            ExitCode::SUCCESS
+            false
         }
         Err(refused) => {
-            println!("E\t{}", refused.question);
-            ExitCode::from(1)
+            print.extend(format!("E\t{}\n", refused.question).bytes());
+            true
         }
     }
+}
+
+fn write(print: &[u8]) -> Result<()> {
+    stdout().write_all(print)?;
+    stdout().flush()
+}
+
+/// Says what failed, where standard error takes it: `eprintln!` would panic where it does not.
+fn failed(why: String) -> ExitCode {
+    let _ = writeln!(stderr(), "{why}");
+    ExitCode::from(FAILED)
 }

@@ -23,7 +23,7 @@ pub const CELLS: usize = 4096;
 pub const CONDITIONS: usize = 32;
 pub const TEXT: usize = 16384;
 
-// The least sizes of the lent buffers, question 1. The cell run has at least CELLS numbers.
+// The least sizes of the lent buffers, question 1. The cell buffer has at least CELLS numbers.
 pub const WORK: usize = 16384;
 pub const RESULT: usize = 2048;
 pub const STEPS: usize = 16;

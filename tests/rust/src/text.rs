@@ -34,7 +34,7 @@ impl<T: Copy + Default, const N: usize> Bounded<T, N> {
     }
 }
 
-/// The table's cells begin at `start` in the cell run.
+/// The table's cells begin at `start` in the cell buffer.
 #[derive(Clone, Copy, Default)]
 pub struct Table {
     pub columns: usize,
@@ -94,12 +94,12 @@ enum Part {
 }
 
 impl Query {
-    /// Reads the text and puts the cells into the cell run.
-    pub fn read(text: &[u8], run: &mut [i32]) -> Result<Query, u8> {
+    /// Reads the text and puts the cells into the cell buffer.
+    pub fn read(text: &[u8], cells: &mut [i32]) -> Result<Query, u8> {
         if text.len() > TEXT {
             return Err(2);
         }
-        let query = Query::lines(text, run).ok_or(2)?;
+        let query = Query::lines(text, cells).ok_or(2)?;
         let tables = query.tables.as_slice();
         let fits = |t: &Table| (1..=COLUMNS).contains(&t.columns) && t.rows <= ROWS;
         if !(1..=TABLES).contains(&query.tables.len()) || !tables.iter().all(fits) || query.cells > CELLS {
@@ -109,7 +109,7 @@ impl Query {
     }
 
     /// `None` if a line has no form or is out of place.
-    fn lines(text: &[u8], run: &mut [i32]) -> Option<Query> {
+    fn lines(text: &[u8], cells: &mut [i32]) -> Option<Query> {
         let mut query = Query {
             tables: Bounded::new(),
             joins: Bounded::new(),
@@ -126,7 +126,7 @@ impl Query {
                     query.tables.push(Table { columns: cursor.field()?.into(), rows: 0, start: query.cells });
                 }
                 b'D' if part == Part::Tables && query.tables.len() > 0 => {
-                    query.row(&mut cursor, run)?;
+                    query.row(&mut cursor, cells)?;
                 }
                 b'J' if part <= Part::Joins => {
                     part = Part::Joins;
@@ -159,12 +159,12 @@ impl Query {
     }
 
     /// One row of the latest table.
-    fn row(&mut self, cursor: &mut Cursor, run: &mut [i32]) -> Option<()> {
+    fn row(&mut self, cursor: &mut Cursor, cells: &mut [i32]) -> Option<()> {
         let start = self.cells;
         loop {
             let cell = cursor.cell()?;
             if self.cells < CELLS {
-                run[self.cells] = cell;
+                cells[self.cells] = cell;
             }
             self.cells += 1;
             if cursor.peek() == b'\n' {

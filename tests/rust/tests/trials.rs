@@ -111,7 +111,7 @@ fn limits() {
     refused(&conditions(33), 6);
 }
 
-/// Whether the work buffer and the cell run are filled with 0.
+/// Whether the work buffer and the cell buffer are filled with 0.
 fn cleared(lent: &Lent) -> bool {
     lent.cells.iter().all(|&number| number == 0) && lent.work.iter().all(|&number| number == 0)
 }

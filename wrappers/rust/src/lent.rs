@@ -1,6 +1,8 @@
-//! The routines over lent memory. `include/rumbethola.h` says in words what each returns and leaves in the buffers.
+//! The routines over lent memory: the text, the cell buffer, the work buffer, the result buffer, and what is handed
+//! over in. `include/rumbethola.h` says in words what each returns and leaves in the buffers. Each needs
+//! [`STACK`](crate::STACK) bytes of stack.
 
-/// The least length of the cell run.
+/// The least length of the cell buffer.
 pub const CELLS: usize = 4096;
 /// The least length of the work buffer.
 pub const WORK: usize = 16384;
@@ -13,17 +15,40 @@ pub const DIRECT_ANSWER: usize = 2;
 /// The least length of the output of the prints.
 pub const OUT: usize = 32768;
 
-/// The status where the answer is shorter than it must be; nothing is changed.
+/// The status where `answer` is shorter than it must be; no buffer is changed.
 pub const NO_ROOM: u8 = 255;
-/// What a print returns where the output is shorter than [`OUT`]; nothing is changed.
+/// What a print returns where `out` is shorter than [`OUT`]; no buffer is changed.
 pub const NO_PRINT: u32 = u32::MAX;
 
-/// Where the sets begin in an answer of [`report`].
+// The places of an answer of `report`. That of `direct` has the first two.
+
+/// The count of rows.
+pub const AT_ROWS: usize = 0;
+/// The count of tables: how many numbers a row of the result has.
+pub const AT_TABLES: usize = 1;
+/// The count of steps of the plan.
+pub const AT_COUNT: usize = 2;
+/// The number that the call returns.
+pub const AT_STATUS: usize = 3;
+/// Where the sets begin, table by table: bit k is condition k.
 pub const AT_SETS: usize = 4;
 /// Where the steps begin.
 pub const AT_STEPS: usize = 12;
-/// How many numbers a step has: kind, first node, second node, rows, conditions.
+
+// The places of a step.
+
+/// How many numbers a step has.
 pub const STEP_NUMBERS: usize = 5;
+/// The number of its [`Kind`](crate::Kind).
+pub const STEP_KIND: usize = 0;
+/// A node, of an outer join the preserved side; of a blanking step its table.
+pub const STEP_FIRST: usize = 1;
+/// A node.
+pub const STEP_SECOND: usize = 2;
+/// The count of rows of a pair's result.
+pub const STEP_ROWS: usize = 3;
+/// Bit k is condition k.
+pub const STEP_CONDITIONS: usize = 4;
 
 /// A routine of the library: the text and four buffers, each as a pointer and a count.
 macro_rules! routine {
@@ -51,7 +76,8 @@ macro_rules! routine {
                 ) -> $returned;
             }
             // SAFETY: each pointer and count are those of a slice, and a slice that is borrowed mutably overlaps no
-            // other. The routine needs no more and keeps none of the pointers.
+            // other. The routine keeps none of the pointers. Too small a stack is noticed: the routine's functions
+            // touch each page of their frames in turn, and so the page behind the stack.
             unsafe {
                 $routine(
                     text.as_ptr(),
@@ -72,22 +98,25 @@ macro_rules! routine {
 
 routine! {
     /// The report: 0 for an answer, the number of a refusal, or [`NO_ROOM`]. `answer` begins with the counts of rows,
-    /// tables and steps and the status; then eight sets and sixteen steps.
+    /// tables and steps and the status; then eight sets and sixteen steps. After a refusal, by question 1 too, these
+    /// are 0, but for the status.
     report, rumbethola_report, answer: u64, u8
 }
 
 routine! {
     /// The direct reading: 0 for an answer, the number of a refusal, or [`NO_ROOM`]. `answer` begins with the counts
-    /// of rows and tables.
+    /// of rows and tables; after a refusal, by question 1 too, both are 0.
     direct, rumbethola_direct, answer: u64, u8
 }
 
 routine! {
-    /// The whole print of the report at the front of `out`: the number of its bytes, or [`NO_PRINT`].
+    /// The whole print of the report at the front of `out`, or the E line of a refusal, by question 1 too: the number
+    /// of its bytes, or [`NO_PRINT`].
     print_report, rumbethola_print_report, out: u8, u32
 }
 
 routine! {
-    /// The print of the direct reading at the front of `out`: the number of its bytes, or [`NO_PRINT`].
+    /// The print of the direct reading at the front of `out`, or the E line of a refusal, by question 1 too: the
+    /// number of its bytes, or [`NO_PRINT`].
     print_direct, rumbethola_print_direct, out: u8, u32
 }

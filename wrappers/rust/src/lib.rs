@@ -3,24 +3,45 @@
 //! The functions of [`lent`] are the routines of the library over memory that the caller lends. [`Engine`] owns that
 //! memory and gives answers as values:
 //!
-//! ```no_run
+//! ```
 //! let mut engine = rumbethola::Engine::new();
-//! match engine.report(&std::fs::read("samples/week.in").unwrap()) {
-//!     Ok(report) => report.rows().for_each(|row| println!("{row:?}")),
-//!     Err(refused) => println!("turned down by question {}", refused.question),
+//! match engine.report(b"T\t2\nD\t8\t152\nD\t9\t161\n") {
+//!     Ok(report) => assert!(report.rows().eq([[0], [1]])),
+//!     Err(refused) => panic!("turned down by question {}", refused.question),
 //! }
 //! ```
 //!
 //! What is proved: the routines of libcapi.a end, are memory-safe for every slice, and return and leave in all lent
 //! memory what the definitions of `crates/capi/specs/Entries.antt` say. What is not proved: this wrapper, and the
-//! compiler's steps from the proved program to machine code. The wrapper has no condition for its callers: a Rust
-//! slice is valid, aligned and not null, and slices that are lent mutably do not overlap, which is all that the
-//! routines ask of a caller (`include/rumbethola.h`).
+//! compiler's steps from the proved program to machine code. The routines ask more of a caller than Rust's types say
+//! in one point, the stack: a Rust slice is valid, aligned and not null, and slices that are lent mutably do not
+//! overlap, which is all else that `include/rumbethola.h` lists.
+//!
+//! # Stack
+//!
+//! A call needs [`STACK`] bytes of the thread's stack, 128 KiB. The routines of the report take less than 48 KiB of
+//! them and those of the direct reading less than 64 KiB; the rest is for this wrapper and to spare. That is measured
+//! (`tests/capi/check`), not proved. Where the stack is too small the process is ended, as by any stack overflow.
+//!
+//! The main thread and the threads of [`std::thread::spawn`] have enough (8 MiB and 2 MiB, where nobody sets
+//! `ulimit -s` or `RUST_MIN_STACK` to less). A thread with a stack of a size of its own is given [`STACK`] bytes
+//! beside what its other functions take:
+//!
+//! ```
+//! let others = 64 * 1024;
+//! let thread = std::thread::Builder::new().stack_size(rumbethola::STACK + others);
+//! let count = thread.spawn(|| rumbethola::Engine::new().report(b"T\t1\nD\t5\n").map(|report| report.rows().len()));
+//! assert_eq!(count.unwrap().join().unwrap(), Ok(1));
+//! ```
 
 use std::fmt;
 
 pub mod lent;
 
+/// The bytes of stack that a call needs.
+pub const STACK: usize = 128 * 1024;
+/// The most bytes of a text. A longer one is turned down by question 2.
+pub const TEXT: usize = 16384;
 /// The most tables of a report.
 pub const TABLES: usize = 8;
 /// The most steps of a plan.
@@ -28,23 +49,24 @@ pub const STEPS: usize = 16;
 /// The row number of a table that is blank in a row.
 pub const BLANK: u16 = u16::MAX;
 
-/// What a step does.
+/// What a step does, with its number in an answer.
 #[derive(Clone, Copy, Debug, PartialEq, Eq)]
 pub enum Kind {
-    Inner,
+    Inner = 1,
     /// The first node is preserved.
-    Outer,
-    Product,
-    Blanking,
-    BestMatch,
+    Outer = 2,
+    Product = 3,
+    Blanking = 4,
+    BestMatch = 5,
 }
 
 /// One step of a plan. Fields that a kind lacks are 0.
 #[derive(Clone, Copy, Debug, PartialEq, Eq)]
 pub struct Step {
     pub kind: Kind,
-    /// A node; of a blanking step its table.
+    /// A node, of an outer join the preserved side; of a blanking step its table.
     pub first: u8,
+    /// A node.
     pub second: u8,
     /// The rows of a pair's result.
     pub rows: u16,
@@ -52,8 +74,8 @@ pub struct Step {
     pub conditions: u64,
 }
 
-/// The number of the question of document 01 that turned a text down, 1 to 11. It is never 1 for an [`Engine`], which
-/// lends all that question 1 asks for.
+/// The number of the question of document 01 that turned a text down, 2 to 11. It is never 1, since an [`Engine`]
+/// lends all that question 1 asks for, and no text gets 10.
 #[derive(Clone, Copy, Debug, PartialEq, Eq)]
 pub struct Refused {
     pub question: u8,
@@ -142,7 +164,8 @@ impl Engine {
     pub fn report(&mut self, text: &[u8]) -> Result<Report<'_>, Refused> {
         let mut answer = [0; lent::ANSWER];
         let status = lent::report(text, &mut self.cells, &mut self.work, &mut self.result, &mut answer);
-        let (rows, tables, count) = (answer[0] as usize, answer[1] as usize, answer[2] as usize);
+        let [rows, tables, count] =
+            [lent::AT_ROWS, lent::AT_TABLES, lent::AT_COUNT].map(|place| answer[place] as usize);
         let steps = answer[lent::AT_STEPS..].chunks_exact(lent::STEP_NUMBERS).take(count);
         match status {
             0 => Ok(Report {
@@ -158,20 +181,22 @@ impl Engine {
     pub fn direct(&mut self, text: &[u8]) -> Result<Rows<'_>, Refused> {
         let mut answer = [0; lent::DIRECT_ANSWER];
         let status = lent::direct(text, &mut self.cells, &mut self.work, &mut self.result, &mut answer);
-        let [rows, tables] = answer.map(|number| number as usize);
+        let [rows, tables] = [lent::AT_ROWS, lent::AT_TABLES].map(|place| answer[place] as usize);
         match status {
             0 => Ok(Rows { tables, numbers: &self.result[..rows * tables] }),
             question => Err(Refused { question }),
         }
     }
 
-    /// The whole print of the report, or of its refusal.
+    /// The whole print of the report. Of a refusal it is one line, E with the number of the question; no other print
+    /// of a report begins with E.
     pub fn print_report(&mut self, text: &[u8]) -> &[u8] {
         let bytes = lent::print_report(text, &mut self.cells, &mut self.work, &mut self.result, &mut self.out);
         &self.out[..bytes as usize]
     }
 
-    /// The print of the direct reading, or of its refusal.
+    /// The print of the direct reading: nothing where there is no row. Of a refusal it is one line, E with the number
+    /// of the question; no other print begins with E.
     pub fn print_direct(&mut self, text: &[u8]) -> &[u8] {
         let bytes = lent::print_direct(text, &mut self.cells, &mut self.work, &mut self.result, &mut self.out);
         &self.out[..bytes as usize]
@@ -179,13 +204,13 @@ impl Engine {
 }
 
 fn step(numbers: &[u64]) -> Step {
-    let kind = match numbers[0] {
+    let kind = match numbers[lent::STEP_KIND] {
         1 => Kind::Inner,
         2 => Kind::Outer,
         3 => Kind::Product,
         4 => Kind::Blanking,
         _ => Kind::BestMatch,
     };
-    let [first, second] = [numbers[1], numbers[2]].map(|number| number as u8);
-    Step { kind, first, second, rows: numbers[3] as u16, conditions: numbers[4] }
+    let [first, second] = [lent::STEP_FIRST, lent::STEP_SECOND].map(|place| numbers[place] as u8);
+    Step { kind, first, second, rows: numbers[lent::STEP_ROWS] as u16, conditions: numbers[lent::STEP_CONDITIONS] }
 }

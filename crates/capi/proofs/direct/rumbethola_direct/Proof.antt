@@ -1,7 +1,7 @@
 -- `capi::direct::rumbethola_direct` meets its contract: the room, the call, and its numbers. Assumes nothing.
-use Rattle.capi.specs.Entries.{directEntry}
-use Rattle.capi.specs.EntryLaws.{no-room, direct-rows, direct-refused}
 use borrow.Author.Needs.{needs}
+use Rattle.capi.specs.Entries.{directEntry}
+use Rattle.capi.proofs.laws.EntryLaws.{no-room, direct-rows, direct-refused}
 use Rattle.capi.proofs.direct.rumbethola_direct.Statement.{statement}
 use Rattle.capi.proofs.direct.rumbethola_direct.Tie as tie
 

@@ -1,8 +1,8 @@
 -- `capi::numbers::put_answer` meets its contract: its parts one behind the other. Assumes nothing.
 use native.Mathlib.Omega.{arith}
-use Rattle.print.specs.Output.{written-as, written-then}
-use Rattle.capi.specs.NumberLaws.{answer-parts}
 use borrow.Author.Needs.{needs}
+use Rattle.print.proofs.laws.OutputLaws.{written-as, written-then}
+use Rattle.capi.proofs.laws.NumberLaws.{answer-parts}
 use Rattle.capi.proofs.numbers.put_answer.Statement.{statement}
 use Rattle.capi.proofs.numbers.put_answer.Tie as tie
 

@@ -4,19 +4,20 @@ use mathlib.Core.Path.{_≡_, refl}
 use Prim.Native.Nat.{_≤_, _-_, _*_}
 use native.Mathlib.Omega.{arith}
 use lib.ListN.{length, getD}
-use Rattle.print.specs.Output.{Written, written-as, written-none}
-use Rattle.print.specs.Loops.{upTo, written-turn}
-use Rattle.capi.specs.NumberLaws.{one, numbers-all}
 use borrow.Author.Needs.{needs}
+use Rattle.print.specs.inner.Output.{Written}
+use Rattle.print.proofs.laws.OutputLaws.{written-as, written-none}
+use Rattle.print.proofs.laws.Loops.{upTo, written-turn}
+use Rattle.capi.proofs.laws.NumberLaws.{one, numbers-all}
 use Rattle.capi.proofs.numbers.put_sets.Statement.{statement}
 use Rattle.capi.proofs.numbers.put_sets.Tie as tie
 
 abbrev Inv-loop : tie.InvT-loop
-Inv-loop run₀ at sets next₀ i₀ run next i =
-    (i ≤ 8) × (length run ≡ length run₀) × Written run₀ at (upTo (λ k. one (getD sets k 0)) i) (1 * i) run next
+Inv-loop buffer₀ at sets next₀ i₀ buffer next i =
+    (i ≤ 8) × (length buffer ≡ length buffer₀) × Written buffer₀ at (upTo (λ k. one (getD sets k 0)) i) (1 * i) buffer next
 
 abbrev μ-loop : tie.MeasureT-loop
-μ-loop run₀ at sets next₀ i₀ run next i = 8 - i
+μ-loop buffer₀ at sets next₀ i₀ buffer next i = 8 - i
 
 loop-holds : tie.Need-loop-holds Inv-loop μ-loop
 unfolding upTo

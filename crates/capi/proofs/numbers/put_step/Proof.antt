@@ -1,7 +1,7 @@
 -- `capi::numbers::put_step` meets its contract: its numbers one behind the other. Assumes nothing.
-use Rattle.print.specs.Output.{written-then}
-use Rattle.capi.specs.Numbers.{stepNumbers}
 use borrow.Author.Needs.{needs}
+use Rattle.print.proofs.laws.OutputLaws.{written-then}
+use Rattle.capi.specs.Numbers.{stepNumbers}
 use Rattle.capi.proofs.numbers.put_step.Statement.{statement}
 use Rattle.capi.proofs.numbers.put_step.Tie as tie
 

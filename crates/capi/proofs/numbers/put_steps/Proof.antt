@@ -4,21 +4,22 @@ use mathlib.Core.Path.{_≡_, refl}
 use Prim.Native.Nat.{_≤_, _-_, _*_}
 use native.Mathlib.Omega.{arith}
 use lib.ListN.{length, getD}
-use Rattle.plan.specs.Steps.{zeroStep}
-use Rattle.print.specs.Output.{Written, written-as, written-none}
-use Rattle.print.specs.Loops.{upTo, written-turn}
-use Rattle.capi.specs.Numbers.{stepNumbers}
-use Rattle.capi.specs.NumberLaws.{steps-all}
 use borrow.Author.Needs.{needs}
+use Rattle.vocabulary.specs.Steps.{zeroStep}
+use Rattle.print.specs.inner.Output.{Written}
+use Rattle.print.proofs.laws.OutputLaws.{written-as, written-none}
+use Rattle.print.proofs.laws.Loops.{upTo, written-turn}
+use Rattle.capi.specs.Numbers.{stepNumbers}
+use Rattle.capi.proofs.laws.NumberLaws.{steps-all}
 use Rattle.capi.proofs.numbers.put_steps.Statement.{statement}
 use Rattle.capi.proofs.numbers.put_steps.Tie as tie
 
 abbrev Inv-loop : tie.InvT-loop
-Inv-loop run₀ at steps next₀ i₀ run next i =
-    (i ≤ 16) × (length run ≡ length run₀) × Written run₀ at (upTo (λ k. stepNumbers (getD steps k zeroStep)) i) (5 * i) run next
+Inv-loop buffer₀ at steps next₀ i₀ buffer next i =
+    (i ≤ 16) × (length buffer ≡ length buffer₀) × Written buffer₀ at (upTo (λ k. stepNumbers (getD steps k zeroStep)) i) (5 * i) buffer next
 
 abbrev μ-loop : tie.MeasureT-loop
-μ-loop run₀ at steps next₀ i₀ run next i = 16 - i
+μ-loop buffer₀ at steps next₀ i₀ buffer next i = 16 - i
 
 loop-holds : tie.Need-loop-holds Inv-loop μ-loop
 unfolding upTo

@@ -1,6 +1,6 @@
 -- `capi::numbers::rows_of` meets its contract, case by case. Assumes nothing.
-use Rattle.capi.specs.Numbers.{rowsOf}
 use borrow.Author.Needs.{needs}
+use Rattle.capi.specs.Numbers.{rowNumber}
 use Rattle.capi.proofs.numbers.rows_of.Statement.{statement}
 use Rattle.capi.proofs.numbers.rows_of.Tie as tie
 
@@ -11,11 +11,11 @@ enum-known-a-2 : tie.Need-enum-known-a-2
 enum-known-a-2 c = search needs
 
 returns : tie.Need-returns
-unfolding rowsOf
+unfolding rowNumber
 returns c = search needs
 
 returns-2 : tie.Need-returns-2
-unfolding rowsOf
+unfolding rowNumber
 returns-2 c = search needs
 
 pub rows-of-spec : {M : Type 1} → statement M

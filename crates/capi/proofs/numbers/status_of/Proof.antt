@@ -1,6 +1,6 @@
 -- `capi::numbers::status_of` meets its contract, case by case. Assumes nothing.
-use Rattle.capi.specs.Numbers.{statusOf}
 use borrow.Author.Needs.{needs}
+use Rattle.capi.specs.Numbers.{statusOf}
 use Rattle.capi.proofs.numbers.status_of.Statement.{statement}
 use Rattle.capi.proofs.numbers.status_of.Tie as tie
 

@@ -1,6 +1,6 @@
 -- `capi::prints::bytes_of` meets its contract, case by case. Assumes nothing.
-use Rattle.capi.specs.Numbers.{bytesOf}
 use borrow.Author.Needs.{needs}
+use Rattle.capi.specs.Numbers.{bytesOf}
 use Rattle.capi.proofs.prints.bytes_of.Statement.{statement}
 use Rattle.capi.proofs.prints.bytes_of.Tie as tie
 

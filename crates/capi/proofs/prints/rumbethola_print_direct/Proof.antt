@@ -1,8 +1,8 @@
 -- `capi::prints::rumbethola_print_direct` meets its contract: the print, and the number of its bytes. Assumes nothing.
-use Rattle.capi.specs.Entries.{printDirectEntry}
-use Rattle.capi.specs.EntryLaws.{print-done}
-use Rattle.capi.specs.PrintLaws.{direct-call-short}
 use borrow.Author.Needs.{needs}
+use Rattle.capi.specs.Entries.{printDirectEntry}
+use Rattle.capi.proofs.laws.EntryLaws.{print-done}
+use Rattle.capi.proofs.laws.PrintLaws.{direct-call-short}
 use Rattle.capi.proofs.prints.rumbethola_print_direct.Statement.{statement}
 use Rattle.capi.proofs.prints.rumbethola_print_direct.Tie as tie
 

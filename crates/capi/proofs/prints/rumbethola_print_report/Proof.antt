@@ -1,8 +1,8 @@
 -- `capi::prints::rumbethola_print_report` meets its contract: the print, and the number of its bytes. Assumes nothing.
-use Rattle.capi.specs.Entries.{printReportEntry}
-use Rattle.capi.specs.EntryLaws.{print-done}
-use Rattle.capi.specs.PrintLaws.{report-call-short}
 use borrow.Author.Needs.{needs}
+use Rattle.capi.specs.Entries.{printReportEntry}
+use Rattle.capi.proofs.laws.EntryLaws.{print-done}
+use Rattle.capi.proofs.laws.PrintLaws.{report-call-short}
 use Rattle.capi.proofs.prints.rumbethola_print_report.Statement.{statement}
 use Rattle.capi.proofs.prints.rumbethola_print_report.Tie as tie
 

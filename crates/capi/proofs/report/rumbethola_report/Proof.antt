@@ -1,7 +1,7 @@
 -- `capi::report::rumbethola_report` meets its contract: the room, the call, and its numbers. Assumes nothing.
-use Rattle.capi.specs.Entries.{reportNumbers, reportEntry}
-use Rattle.capi.specs.EntryLaws.{no-room, report-done}
 use borrow.Author.Needs.{needs}
+use Rattle.capi.specs.Entries.{reportNumbers, reportEntry}
+use Rattle.capi.proofs.laws.EntryLaws.{no-room, report-done}
 use Rattle.capi.proofs.report.rumbethola_report.Statement.{statement}
 use Rattle.capi.proofs.report.rumbethola_report.Tie as tie
 

@@ -1,4 +1,5 @@
--- `cells::table::cell` meets its contract: a walk of its MIR, by hand. The view is taken apart, and `cell_at` is called on the slice and the numbers. All that the proof knows of `cell_at` is that it meets its contract.
+-- `cells::table::cell` meets its contract: a walk of its MIR, by hand. The view is taken apart, and `cell_at` is called on the slice and
+-- the numbers. All that the proof knows of `cell_at` is that it meets its contract.
 -- What the cells own goes to the callee, beside the lifetime's token, which comes back; what the view owns is kept for the exit.
 -- Assumes nothing.
 use mathlib.Core.Path.{_≡_, refl}

@@ -1,6 +1,6 @@
--- `cells::table::viewed_cell` meets its contract: a walk of its MIR, by hand. The view that `view` returns is held in a local and passed to `cell`. All that the proof knows of the two is that each meets its contract.
--- A `&[i32]` is Copy: what it owns goes to `view`, and is kept for the exit.
--- Assumes nothing.
+-- `cells::table::viewed_cell` meets its contract: a walk of its MIR, by hand. The view that `view` returns is held in a local and passed to
+-- `cell`. All that the proof knows of the two is that each meets its contract.
+-- A `&[i32]` is Copy: what it owns goes to `view`, and is kept for the exit. Assumes nothing.
 use mathlib.Core.Path.{_≡_, refl}
 use Prim.Native.Nat.{ℕ, _<_, _^_}
 use mathlib.Core.List.{List, [], _∷_}

@@ -2,9 +2,9 @@
 use mathlib.Core.Path.{sym, _∙_}
 use denote.Ref.{now}
 use borrow.Author.Tests.{not-true, not-false}
-use Rattle.engine.specs.DirectCode.{no-width, direct-short, direct-room, direct-done}
 use lib.ListN.{length}
 use borrow.Author.Needs.{needs}
+use Rattle.engine.proofs.laws.DirectCode.{no-width, direct-short, direct-room, direct-done}
 use Rattle.engine.proofs.direct.find.Statement.{statement}
 use Rattle.engine.proofs.direct.find.Tie as tie
 

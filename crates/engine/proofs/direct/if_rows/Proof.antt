@@ -1,6 +1,6 @@
 -- `engine::direct::if_rows` meets its contract. Assumes nothing.
-use Rattle.engine.specs.DirectCode.{if-rows, if-refused}
 use borrow.Author.Needs.{needs}
+use Rattle.engine.proofs.laws.DirectCode.{if-rows, if-refused}
 use Rattle.engine.proofs.direct.if_rows.Statement.{statement}
 use Rattle.engine.proofs.direct.if_rows.Tie as tie
 

@@ -1,7 +1,7 @@
 -- `engine::direct::read_text` meets its contract: the refusal of questions 2 to 8, or the tree read. Assumes nothing.
 use mathlib.Core.Path.{_∙_}
-use Rattle.engine.specs.DirectCode.{no-width, text-refused, text-readable, text-width, text-tables, text-read}
 use borrow.Author.Needs.{needs}
+use Rattle.engine.proofs.laws.DirectCode.{no-width, text-refused, text-readable, text-width, text-tables, text-read}
 use Rattle.engine.proofs.direct.read_text.Statement.{statement}
 use Rattle.engine.proofs.direct.read_text.Tie as tie
 

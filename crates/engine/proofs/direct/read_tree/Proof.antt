@@ -1,6 +1,6 @@
 -- `engine::direct::read_tree` meets its contract: the tree read, and question 11. Assumes nothing.
-use Rattle.engine.specs.DirectCode.{eleven-rows, eleven-over}
 use borrow.Author.Needs.{needs}
+use Rattle.engine.proofs.laws.DirectCode.{eleven-rows, eleven-over}
 use Rattle.engine.proofs.direct.read_tree.Statement.{statement}
 use Rattle.engine.proofs.direct.read_tree.Tie as tie
 

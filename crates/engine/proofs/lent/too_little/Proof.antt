@@ -1,6 +1,6 @@
 -- `engine::lent::too_little` meets its contract: question 1, one length after another. Assumes nothing.
-use Rattle.engine.specs.PreparingLaws.{short-work, short-result, short-cells, short-steps}
 use borrow.Author.Needs.{needs}
+use Rattle.engine.proofs.laws.PreparingLaws.{short-work, short-result, short-cells, short-steps}
 use Rattle.engine.proofs.lent.too_little.Statement.{statement}
 use Rattle.engine.proofs.lent.too_little.Tie as tie
 

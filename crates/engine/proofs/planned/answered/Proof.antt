@@ -1,6 +1,6 @@
 -- `engine::planned::answered` meets its contract. Assumes nothing.
 use mathlib.Core.Path.{refl}
-use Rattle.engine.specs.Planning.{answeredWith}
+use Rattle.engine.specs.inner.Planning.{answeredWith}
 use Rattle.engine.proofs.planned.answered.Statement.{statement}
 use Rattle.engine.proofs.planned.answered.Tie as tie
 

@@ -1,8 +1,8 @@
 -- `engine::planned::hand_over` meets its contract: the refusal, or the rows and the plan with its counts. Assumes nothing.
 use mathlib.Core.Path.{_≡_, sym, _∙_}
 use lib.ListN.{length, length-map}
-use Rattle.engine.specs.PreparingLaws.{ends-away, ends-rows, ends-over}
 use borrow.Author.Needs.{needs}
+use Rattle.engine.proofs.laws.PreparingLaws.{ends-away, ends-rows, ends-over}
 use Rattle.engine.proofs.planned.hand_over.Statement.{statement}
 use Rattle.engine.proofs.planned.hand_over.Tie as tie
 

@@ -1,6 +1,6 @@
 -- `engine::planned::refused` meets its contract: no table and no step. Assumes nothing.
-use Rattle.engine.specs.Planning.{refusedReply}
 use borrow.Author.Needs.{needs}
+use Rattle.engine.specs.inner.Planning.{refusedReply}
 use Rattle.engine.proofs.planned.refused.Statement.{statement}
 use Rattle.engine.proofs.planned.refused.Tie as tie
 

@@ -1,6 +1,6 @@
 -- `engine::planned::turned_down` meets its contract: a refusal, and a plan without steps. Assumes nothing.
-use Rattle.engine.specs.Planning.{turnedDown}
 use borrow.Author.Needs.{needs}
+use Rattle.engine.specs.inner.Planning.{turnedDown}
 use Rattle.engine.proofs.planned.turned_down.Statement.{statement}
 use Rattle.engine.proofs.planned.turned_down.Tie as tie
 

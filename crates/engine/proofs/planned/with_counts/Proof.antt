@@ -2,8 +2,8 @@
 use Prim.Native.Nat.{_≤_, _-_}
 use mathlib.Core.Path.{_≡_}
 use borrow.Author.Needs.{needs}
-use Rattle.engine.specs.Planning.{withCounts}
-use Rattle.engine.specs.PlanningLaws.{counts-none, counts-next, counts-end}
+use Rattle.engine.specs.inner.Planning.{withCounts}
+use Rattle.engine.proofs.laws.PlanningLaws.{counts-none, counts-next, counts-end}
 use Rattle.engine.proofs.planned.with_counts.Statement.{statement}
 use Rattle.engine.proofs.planned.with_counts.Tie as tie
 

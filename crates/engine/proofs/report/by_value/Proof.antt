@@ -1,6 +1,6 @@
 -- `engine::report::by_value` meets its contract: the same fields. Assumes nothing.
 use mathlib.Core.Path.{refl}
-use Rattle.engine.specs.Preparing.{byValue}
+use Rattle.engine.specs.inner.Preparing.{byValue}
 use Rattle.engine.proofs.report.by_value.Statement.{statement}
 use Rattle.engine.proofs.report.by_value.Tie as tie
 

@@ -1,6 +1,7 @@
--- `engine::report::report` meets its contract: a walk of its MIR, by hand. A local array of sixteen zero steps is lent to `report_into` for a lifetime of the call and is back after it (`Local.antt`); `by_value` puts it into the result. The text's reference is Copy; cells, work buffer and result go to `report_into` for good.
--- All that the proof knows of the callees is that each meets its contract.
--- Assumes nothing.
+-- `engine::report::report` meets its contract: a walk of its MIR, by hand. A local array of sixteen zero steps is lent to `report_into` for
+-- a lifetime of the call and is back after it (`Local.antt` of crate step_list); `by_value` puts it into the result. The text's reference
+-- is Copy; cells, work buffer and result go to `report_into` for good.
+-- All that the proof knows of the callees is that each meets its contract. Assumes nothing.
 use mathlib.Core.Path.{_≡_, refl, ap, subst}
 use Prim.Native.Nat.{ℕ}
 use mathlib.Core.List.{List, [], _∷_}
@@ -43,21 +44,22 @@ use denote.Triple.Spec.{tripleOf}
 use denote.Triple.Walked.{says, Stays, gave-slice, stay-none-slice, walkOf, goes-gave-slice, goes-none-slice, ends-at}
 use denote.Exit.{yes}
 use Rattle.cells.proofs.Walks.{by-walk, framed, known, answers}
-use Rattle.plan.specs.Steps.{zeroStep}
-use Rattle.plan.specs.declared.step.Step.{Step}
-use Rattle.plan.proofs.step.Step as T
-use Rattle.plan.proofs.step.Step.Laws as T′
+use Rattle.vocabulary.specs.Steps.{zeroStep}
+use Rattle.vocabulary.specs.declared.step.Step.{Step}
+use Rattle.vocabulary.proofs.step.Step as T
+use Rattle.vocabulary.proofs.step.Step.Laws as T′
+use Rattle.step_list.proofs.Calls.{passes, gives}
+use Rattle.step_list.proofs.Local.{lends-local, local-back}
 use Rattle.engine.specs.Calls.{reportCall}
-use Rattle.engine.specs.Preparing.{byValue}
-use Rattle.engine.specs.ReportCode.{asCall, asValue, handed-by-value}
+use Rattle.engine.specs.inner.Preparing.{byValue}
+use Rattle.engine.specs.inner.Planning.{asCall}
+use Rattle.engine.proofs.laws.ReportCode.{asValue, handed-by-value}
 use Rattle.engine.specs.declared.planned.Planned.{Planned}
 use Rattle.engine.specs.declared.planned.Reply.{Reply}
 use Rattle.engine.proofs.planned.Planned as X
 use Rattle.engine.proofs.planned.Planned.Laws as X′
 use Rattle.engine.proofs.planned.Reply as A₁
 use Rattle.engine.proofs.planned.Reply.Laws as A₁′
-use Rattle.runner.proofs.Calls.{passes, gives}
-use Rattle.runner.proofs.Local.{lends-local, local-back}
 use Rattle.engine.proofs.report.report_into as into
 use Rattle.engine.proofs.report.report_into.Symbol as into-def
 use Rattle.engine.proofs.report.report_into.Met as into-thm

@@ -1,7 +1,10 @@
--- `engine::report::report_into` meets its contract: a walk of its MIR, by hand, with a branch that returns and six calls. `too_little` answers question 1; where it says yes nothing was touched.
--- Else the text and the cells go to `prepare`, the steps to `put_plan`, the three to `run_over` with the work buffer, each lent again for the call (the cells are shown to `run_over`), and come back (`Lending.antt`); then cells, work buffer and result go to `conclude` and the steps to `put_plan` for good.
--- All that the proof knows of the callees is that each meets its contract; that the contract follows from theirs is `report-short` and `report-done` of `ReportCode.antt`.
--- Assumes nothing.
+-- `engine::report::report_into` meets its contract: a walk of its MIR, by hand, with a branch that returns and six calls. `too_little`
+-- answers question 1; where it says yes nothing was touched.
+-- Else the text and the cells go to `prepare`, the steps to `put_plan`, the three to `run_over` with the work buffer, each lent again for
+-- the call (the cells are shown to `run_over`), and come back (`Lending.antt` of crate step_list); then cells, work buffer and result go to
+-- `conclude` and the steps to `put_plan` for good.
+-- All that the proof knows of the callees is that each meets its contract; that the contract follows from theirs is `report-short` and
+-- `report-done` of proofs/laws/ReportCode.antt. Assumes nothing.
 use mathlib.Core.Path.{_≡_, refl, _∙_, ap, subst}
 use Prim.Native.Nat.{ℕ}
 use mathlib.Core.Bool.{Bool, true, false, not}
@@ -42,63 +45,64 @@ use denote.Triple.Entry.{Args, Vals, onEntry}
 use denote.Triple.Spec.{tripleOf}
 use denote.Triple.Walked.{says, Stays, gave-slice, stay-none-slice, walkOf, goes-gave-slice, goes-none-slice, ends-at}
 use denote.Exit.{yes}
-use Rattle.cells.specs.BoolLaws.{is-false}
+use Rattle.cells.proofs.laws.BoolLaws.{is-false}
 use Rattle.cells.proofs.Walks.{by-walk, framed, known, answers}
-use Rattle.plan.specs.declared.query.StoredQuery.{StoredQuery}
-use Rattle.plan.specs.declared.step.Step.{Step}
-use Rattle.plan.specs.declared.steps.StepList.{StepList}
-use Rattle.plan.proofs.query.StoredQuery as Q
-use Rattle.plan.proofs.query.StoredQuery.Laws as Q′
-use Rattle.plan.proofs.step.Step as T
-use Rattle.plan.proofs.steps.StepList as L
-use Rattle.plan.proofs.steps.StepList.Laws as L′
-use Rattle.runner.specs.Laid.{laid}
-use Rattle.runner.specs.LaidLaws.{length-laid}
-use Rattle.runner.specs.Over.{Runs}
-use Rattle.runner.specs.State.{startRun}
-use Rattle.runner.specs.declared.state.Run.{Run}
-use Rattle.runner.proofs.state.Run as R
-use Rattle.runner.proofs.state.Run.Laws as R′
-use Rattle.runner.proofs.While.{guards}
-use Rattle.runner.proofs.list.put_plan as put
-use Rattle.runner.proofs.list.put_plan.Symbol as put-def
-use Rattle.runner.proofs.list.put_plan.Met as put-thm
-use Rattle.runner.proofs.over.run_over as over
-use Rattle.runner.proofs.over.run_over.Symbol as over-def
-use Rattle.runner.proofs.over.run_over.Met as over-thm
-use Rattle.ready.specs.declared.prepared.Prepared.{Prepared}
-use Rattle.ready.proofs.prepared.Prepared as P
-use Rattle.ready.proofs.prepared.Prepared.Laws as P′
-use Rattle.ready.proofs.prepared.plan_of as plan
-use Rattle.ready.proofs.prepared.plan_of.Symbol as plan-def
-use Rattle.ready.proofs.prepared.plan_of.Met as plan-thm
-use Rattle.ready.proofs.prepared.query_of as query
-use Rattle.ready.proofs.prepared.query_of.Symbol as query-def
-use Rattle.ready.proofs.prepared.query_of.Met as query-thm
-use Rattle.engine.proofs.prepare.start_of as start
-use Rattle.engine.proofs.prepare.start_of.Symbol as start-def
-use Rattle.engine.proofs.prepare.start_of.Met as start-thm
+use Rattle.vocabulary.specs.declared.query.StoredQuery.{StoredQuery}
+use Rattle.vocabulary.specs.declared.step.Step.{Step}
+use Rattle.vocabulary.proofs.query.StoredQuery as Q
+use Rattle.vocabulary.proofs.query.StoredQuery.Laws as Q′
+use Rattle.vocabulary.proofs.step.Step as T
+use Rattle.plan.specs.declared.steps.Plan.{Plan}
+use Rattle.plan.proofs.steps.Plan as L
+use Rattle.plan.proofs.steps.Plan.Laws as L′
+use Rattle.prepare.specs.declared.prepared.Prepared.{Prepared}
+use Rattle.prepare.proofs.prepared.Prepared as P
+use Rattle.prepare.proofs.prepared.Prepared.Laws as P′
+use Rattle.prepare.proofs.prepared.plan_of as plan
+use Rattle.prepare.proofs.prepared.plan_of.Symbol as plan-def
+use Rattle.prepare.proofs.prepared.plan_of.Met as plan-thm
+use Rattle.prepare.proofs.prepared.query_of as query
+use Rattle.prepare.proofs.prepared.query_of.Symbol as query-def
+use Rattle.prepare.proofs.prepared.query_of.Met as query-thm
+use Rattle.prepare.specs.inner.Prepare.{Prepares}
+use Rattle.prepare.proofs.prepare.prepare as prep
+use Rattle.prepare.proofs.prepare.prepare.Symbol as prep-def
+use Rattle.prepare.proofs.prepare.prepare.Met as prep-thm
+use Rattle.step_list.specs.inner.Laid.{laid}
+use Rattle.step_list.proofs.laws.LaidLaws.{length-laid}
+use Rattle.step_list.specs.inner.Over.{Runs}
+use Rattle.step_list.specs.inner.State.{startState}
+use Rattle.step_list.specs.declared.state.State.{State}
+use Rattle.step_list.proofs.state.State as R
+use Rattle.step_list.proofs.state.State.Laws as R′
+use Rattle.step_list.proofs.While.{guards}
+use Rattle.step_list.proofs.list.put_plan as put
+use Rattle.step_list.proofs.list.put_plan.Symbol as put-def
+use Rattle.step_list.proofs.list.put_plan.Met as put-thm
+use Rattle.step_list.proofs.over.run_over as over
+use Rattle.step_list.proofs.over.run_over.Symbol as over-def
+use Rattle.step_list.proofs.over.run_over.Met as over-thm
+use Rattle.step_list.proofs.Calls.{asks-one, passes, gives}
+use Rattle.step_list.proofs.Lending.{Has, Gone, Token, Kept, KeptShown, LentSlice, lends, comes, Shown, shows, seen, lets-go}
+use Rattle.engine.proofs.planned.start_of as start
+use Rattle.engine.proofs.planned.start_of.Symbol as start-def
+use Rattle.engine.proofs.planned.start_of.Met as start-thm
 use Rattle.engine.specs.Calls.{reportCall}
-use Rattle.engine.specs.Planning.{refusedReply}
-use Rattle.engine.specs.Preparing.{enoughLent, Within, Prepares, Concludes}
-use Rattle.engine.specs.ReportCode.{asCall, prepared-within, report-short, report-done}
+use Rattle.engine.specs.inner.Planning.{refusedReply, asCall}
+use Rattle.engine.specs.inner.Preparing.{enoughLent, TablesWithin, Concludes}
+use Rattle.engine.proofs.laws.ReportCode.{prepared-within, report-short, report-done}
 use Rattle.engine.specs.declared.planned.Reply.{Reply}
 use Rattle.engine.specs.declared.planned.Concluded.{Concluded}
 use Rattle.engine.proofs.planned.Reply as A₁
 use Rattle.engine.proofs.planned.Reply.Laws as A₁′
 use Rattle.engine.proofs.planned.Concluded as X
 use Rattle.engine.proofs.planned.Concluded.Laws as X′
-use Rattle.runner.proofs.Calls.{asks-one, passes, gives}
-use Rattle.runner.proofs.Lending.{Has, Gone, Token, Kept, KeptShown, Lent, lends, comes, Shown, shows, seen, lets-go}
 use Rattle.engine.proofs.lent.too_little as short
 use Rattle.engine.proofs.lent.too_little.Symbol as short-def
 use Rattle.engine.proofs.lent.too_little.Met as short-thm
 use Rattle.engine.proofs.planned.refused as refuse
 use Rattle.engine.proofs.planned.refused.Symbol as refuse-def
 use Rattle.engine.proofs.planned.refused.Met as refuse-thm
-use Rattle.engine.proofs.prepare.prepare as prep
-use Rattle.engine.proofs.prepare.prepare.Symbol as prep-def
-use Rattle.engine.proofs.prepare.prepare.Met as prep-thm
 use Rattle.engine.proofs.planned.conclude as end
 use Rattle.engine.proofs.planned.conclude.Symbol as end-def
 use Rattle.engine.proofs.planned.conclude.Met as end-thm
@@ -140,10 +144,10 @@ prep-val p = LL.val P.the-type P′.the-laws p
 abbrev query-val : StoredQuery → Val
 query-val q = LL.val Q.the-type Q′.the-laws q
 
-abbrev run-val : Run → Val
+abbrev run-val : State → Val
 run-val r = LL.val R.the-type R′.the-laws r
 
-abbrev plan-val : StepList → Val
+abbrev plan-val : Plan → Val
 plan-val s = LL.val L.the-type L′.the-laws s
 
 abbrev concluded-val : Concluded → Val
@@ -152,13 +156,13 @@ concluded-val x = LL.val X.the-type X′.the-laws x
 abbrev PrepIs : Prepared → Type 0
 PrepIs p = Is P.the-row p (prep-val p ∷ [])
 
-abbrev RunIs : Run → Type 0
+abbrev RunIs : State → Type 0
 RunIs r = Is R.the-row r (run-val r ∷ [])
 
 abbrev QueryIs : StoredQuery → Type 0
 QueryIs q = Is Q.the-row q (query-val q ∷ [])
 
-abbrev PlanIs : StepList → Type 0
+abbrev PlanIs : Plan → Type 0
 PlanIs s = Is L.the-row s (plan-val s ∷ [])
 
 -- a negated test that is not passed
@@ -167,7 +171,7 @@ not-fails true z = refl
 not-fails false z = absurd z
 
 -- the steps of a plan, laid into a list of n steps
-abbrev laid-in : StepList → ℕ → List Step
+abbrev laid-in : Plan → ℕ → List Step
 laid-in s n = laid (take (s .count) (s .steps)) n
 
 module _ {M : Type 1} (𝓤 : URA M) (H : Heap 𝓤) (A : Atoms 𝓤) (mem : Memory → SProp 𝓤) (run : Routine → Fun 𝓤) where
@@ -352,7 +356,7 @@ module _ {M : Type 1} (𝓤 : URA M) (H : Heap 𝓤) (A : Atoms 𝓤) (W : Given
   asks-prep : ent 𝓤 (⋆ 𝓤 H A (Text ∷ Cells c₀ ∷ [])) (mean 𝓤 H A (later (some (λ (x : ℕ × GName). raw (Prep 𝓤 H A mem run .pre (to-prep x)) ⊛ ‵ TextOwn ⊛ CellsKept x))))
   asks-prep =
       qed W (Text ∷ Cells c₀ ∷ []) ∵ updating ! $ split ! $ use1 W (‵ TextOwn ⊛ ‵ TextOwn) (shr-slice-copy 𝓤 H A W (named 0) κt u8 .twice xt (st ∷ [])) $ split ! $ move ! (3 ∷ []) $
-      use1 W (later (some (λ (x : ℕ × GName). Lent i32 κc qc γc bc oc (length c₀) 𝓤 H A (named 1) W (named 1) c₀ x ⊛ Token i32 κc qc γc bc oc (length c₀) 𝓤 H A (named 1) x ⊛ CellsKept x))) (lends i32 κc qc γc bc oc (length c₀) 𝓤 H A (named 1) W (named 1) c₀ refl) $ await ! tt $ pick ! (λ x. split ! $ move ! (1 ∷ []) $ split ! $
+      use1 W (later (some (λ (x : ℕ × GName). LentSlice i32 κc qc γc bc oc (length c₀) 𝓤 H A (named 1) W (named 1) c₀ x ⊛ Token i32 κc qc γc bc oc (length c₀) 𝓤 H A (named 1) x ⊛ CellsKept x))) (lends i32 κc qc γc bc oc (length c₀) 𝓤 H A (named 1) W (named 1) c₀ refl) $ await ! tt $ pick ! (λ x. split ! $ move ! (1 ∷ []) $ split ! $
       -- [the token of the call; what is kept of the cells; the cells; the text; the text; its token]
       nothing ! $ move ! (1 ∷ 0 ∷ []) $ join ! $ move ! (5 ∷ 0 ∷ []) $ join ! $ nothing ! $ move ! (3 ∷ 0 ∷ []) $ fjoin ! $ move ! (3 ∷ 0 ∷ []) $ fjoin ! $ move ! (1 ∷ 0 ∷ []) $
       passes ! $
@@ -396,7 +400,7 @@ module _ {M : Type 1} (𝓤 : URA M) (H : Heap 𝓤) (A : Atoms 𝓤) (W : Given
 
   -- ---- `put_plan`, at the lifetime κ, the share q, the name δ, the list l and the plan s
 
-  module _ (κ : Lft) (q : Share) (δ : GName) (l : List Step) (s : StepList) where
+  module _ (κ : Lft) (q : Share) (δ : GName) (l : List Step) (s : Plan) where
     abbrev to-put : Put 𝓤 H A mem run .Ghost
     to-put = (((κ, tt), (q, tt), tt, (xs δ l, (s, tt)), (ss ∷ [], (plan-val s ∷ [], tt))), tt)
 
@@ -421,14 +425,14 @@ module _ {M : Type 1} (𝓤 : URA M) (H : Heap 𝓤) (A : Atoms 𝓤) (W : Given
         at-once ! $ show ! (λ (z : List Step). mean 𝓤 H A ((‵ (flft κ q) ⊛ ‵ (finally T.the-row δ z)) ⊛ raw (fact 𝓤 (Put-said u z)))) (ws .0) $ says ! (e, is, same) $ keep ! (2 ∷ 0 ∷ []) $ done !))
 
   -- the plan s laid into the steps, which are lent for the call, for x
-  module _ (s : StepList) (is : PlanIs s) where
+  module _ (s : Plan) (is : PlanIs s) where
     abbrev StepsKept : ℕ × GName → Item 𝓤
     StepsKept x = Kept T.the-row κs qs γs bs os n 𝓤 H A (named 4) ys x
 
     asks-lay : ent 𝓤 (mean 𝓤 H A (Steps ys)) (mean 𝓤 H A (later (some (λ (x : ℕ × GName). raw (Put 𝓤 H A mem run .pre (to-put (x .0 ∷ []) fullShare (x .1) ys s)) ⊛ StepsKept x))))
     asks-lay =
         qed W (Steps ys ∷ []) ∵ updating ! $
-        use1 W (later (some (λ (x : ℕ × GName). Lent T.the-row κs qs γs bs os n 𝓤 H A (named 4) W (named 0) ys x ⊛ Token T.the-row κs qs γs bs os n 𝓤 H A (named 4) x ⊛ StepsKept x))) (lends T.the-row κs qs γs bs os n 𝓤 H A (named 4) W (named 0) ys refl) $ await ! tt $ pick ! (λ x. split ! $ move ! (1 ∷ []) $ split ! $
+        use1 W (later (some (λ (x : ℕ × GName). LentSlice T.the-row κs qs γs bs os n 𝓤 H A (named 4) W (named 0) ys x ⊛ Token T.the-row κs qs γs bs os n 𝓤 H A (named 4) x ⊛ StepsKept x))) (lends T.the-row κs qs γs bs os n 𝓤 H A (named 4) W (named 0) ys refl) $ await ! tt $ pick ! (λ x. split ! $ move ! (1 ∷ []) $ split ! $
         move ! (2 ∷ 0 ∷ []) $ use2 W (raw (Put 𝓤 H A mem run .pre (to-put (x .0 ∷ []) fullShare (x .1) ys s))) (asks-put (x .0 ∷ []) fullShare (x .1) ys s is) $
         at-once ! $ show ! (λ (z : ℕ × GName). mean 𝓤 H A (raw (Put 𝓤 H A mem run .pre (to-put (z .0 ∷ []) fullShare (z .1) ys s)) ⊛ StepsKept z)) x $ done !)
 
@@ -442,7 +446,7 @@ module _ {M : Type 1} (𝓤 : URA M) (H : Heap 𝓤) (A : Atoms 𝓤) (W : Given
 
   -- ---- `run_over`, for what is prepared, p, and the cells c
 
-  module _ (p : Prepared) (p-is : PrepIs p) (c : List ℤ) (c-len : length c ≡ length c₀) (query-is : QueryIs (p .query)) (run-is : RunIs (startRun (p .query))) where
+  module _ (p : Prepared) (p-is : PrepIs p) (c : List ℤ) (c-len : length c ≡ length c₀) (query-is : QueryIs (p .query)) (run-is : RunIs (startState (p .query))) where
     abbrev L₁ : List Step
     L₁ = laid-in (p .plan) n
 
@@ -454,7 +458,7 @@ module _ {M : Type 1} (𝓤 : URA M) (H : Heap 𝓤) (A : Atoms 𝓤) (W : Given
     Three = (ℕ × GName) × ((ℕ × GName) × (ℕ × GName))
 
     abbrev to-over : Three → Over 𝓤 H A mem run .Ghost
-    to-over x = (((x .0 .0 ∷ [], (x .1 .0 .0 ∷ [], (x .1 .1 .0 ∷ [], tt))), (fullShare, (fullShare, (fullShare, tt))), tt, (xs (x .0 .1) L₁, (xc (x .1 .0 .1) c, (xw (x .1 .1 .1) w₀, (p .query, (startRun (p .query), tt))))), (ss ∷ [], (sc ∷ [], (sw ∷ [], (query-val (p .query) ∷ [], (run-val (startRun (p .query)) ∷ [], tt)))))), tt)
+    to-over x = (((x .0 .0 ∷ [], (x .1 .0 .0 ∷ [], (x .1 .1 .0 ∷ [], tt))), (fullShare, (fullShare, (fullShare, tt))), tt, (xs (x .0 .1) L₁, (xc (x .1 .0 .1) c, (xw (x .1 .1 .1) w₀, (p .query, (startState (p .query), tt))))), (ss ∷ [], (sc ∷ [], (sw ∷ [], (query-val (p .query) ∷ [], (run-val (startState (p .query)) ∷ [], tt)))))), tt)
 
     abbrev AllKept : Three → Item 𝓤
     AllKept x = Kept T.the-row κs qs γs bs os n 𝓤 H A (named 4) L₁ (x .0) ⊛ KeptShown i32 κc qc γc bc oc (length c₀) 𝓤 H A (named 1) c (x .1 .0) ⊛ Kept u16 κw qw γw bw ow (length w₀) 𝓤 H A (named 2) w₀ (x .1 .1)
@@ -463,25 +467,25 @@ module _ {M : Type 1} (𝓤 : URA M) (H : Heap 𝓤) (A : Atoms 𝓤) (W : Given
     asks-over =
         qed W (Cells c ∷ Work w₀ ∷ Steps L₁ ∷ []) ∵ updating ! $
         use1 W (later (some (λ (x : ℕ × GName). Shown i32 κc qc γc bc oc (length c₀) 𝓤 H A (named 1) W (named 1) c x ⊛ Token i32 κc qc γc bc oc (length c₀) 𝓤 H A (named 1) x ⊛ KeptShown i32 κc qc γc bc oc (length c₀) 𝓤 H A (named 1) c x))) (shows i32 κc qc γc bc oc (length c₀) 𝓤 H A (named 1) W (named 1) c c-len) $ await ! tt $ pick ! (λ y. move ! (1 ∷ []) $
-        use1 W (later (some (λ (x : ℕ × GName). Lent u16 κw qw γw bw ow (length w₀) 𝓤 H A (named 2) W (named 2) w₀ x ⊛ Token u16 κw qw γw bw ow (length w₀) 𝓤 H A (named 2) x ⊛ Kept u16 κw qw γw bw ow (length w₀) 𝓤 H A (named 2) w₀ x))) (lends u16 κw qw γw bw ow (length w₀) 𝓤 H A (named 2) W (named 2) w₀ refl) $ await ! tt $ pick ! (λ z. move ! (2 ∷ []) $
-        use1 W (later (some (λ (x : ℕ × GName). Lent T.the-row κs qs γs bs os n 𝓤 H A (named 4) W (named 0) L₁ x ⊛ Token T.the-row κs qs γs bs os n 𝓤 H A (named 4) x ⊛ Kept T.the-row κs qs γs bs os n 𝓤 H A (named 4) L₁ x))) (lends T.the-row κs qs γs bs os n 𝓤 H A (named 4) W (named 0) L₁ L₁-len) $ await ! tt $ pick ! (λ x.
+        use1 W (later (some (λ (x : ℕ × GName). LentSlice u16 κw qw γw bw ow (length w₀) 𝓤 H A (named 2) W (named 2) w₀ x ⊛ Token u16 κw qw γw bw ow (length w₀) 𝓤 H A (named 2) x ⊛ Kept u16 κw qw γw bw ow (length w₀) 𝓤 H A (named 2) w₀ x))) (lends u16 κw qw γw bw ow (length w₀) 𝓤 H A (named 2) W (named 2) w₀ refl) $ await ! tt $ pick ! (λ z. move ! (2 ∷ []) $
+        use1 W (later (some (λ (x : ℕ × GName). LentSlice T.the-row κs qs γs bs os n 𝓤 H A (named 4) W (named 0) L₁ x ⊛ Token T.the-row κs qs γs bs os n 𝓤 H A (named 4) x ⊛ Kept T.the-row κs qs γs bs os n 𝓤 H A (named 4) L₁ x))) (lends T.the-row κs qs γs bs os n 𝓤 H A (named 4) W (named 0) L₁ L₁-len) $ await ! tt $ pick ! (λ x.
         split ! $ move ! (1 ∷ []) $ split ! $ move ! (3 ∷ []) $ split ! $ move ! (1 ∷ []) $ split ! $ move ! (6 ∷ []) $ split ! $ move ! (1 ∷ []) $ split ! $
         -- [the cells' token; what is kept of them; the cells; work's token; what is kept of it; work; the steps' token; what is kept of them; the steps]
         nothing ! $ move ! (4 ∷ 0 ∷ []) $ join ! $ move ! (1 ∷ 0 ∷ []) $ join ! $ move ! (5 ∷ 0 ∷ []) $ join ! $
         -- [the tokens; what is kept of the cells; the cells; what is kept of work; work; what is kept of the steps; the steps]
-        nothing ! $ owned ! R.the-row (Is R.the-row) (LL.makes R.the-type R′.the-plain 𝓤 H A) (startRun (p .query)) _ run-is $ fjoin ! $ owned ! Q.the-row (Is Q.the-row) (LL.makes Q.the-type Q′.the-plain 𝓤 H A) (p .query) _ query-is $ fjoin ! $
+        nothing ! $ owned ! R.the-row (Is R.the-row) (LL.makes R.the-type R′.the-plain 𝓤 H A) (startState (p .query)) _ run-is $ fjoin ! $ owned ! Q.the-row (Is Q.the-row) (LL.makes Q.the-type Q′.the-plain 𝓤 H A) (p .query) _ query-is $ fjoin ! $
         move ! (5 ∷ 0 ∷ []) $ fjoin ! $ move ! (3 ∷ 0 ∷ []) $ fjoin ! $ move ! (5 ∷ 0 ∷ []) $ fjoin ! $ move ! (1 ∷ 0 ∷ []) $ passes ! $
         at-once ! $ show ! (λ (t : Three). mean 𝓤 H A (raw (Over 𝓤 H A mem run .pre (to-over t)) ⊛ AllKept t)) (x, (y, z)) $ frame ! $ move ! (2 ∷ 0 ∷ 1 ∷ []) $ done !)))
 
     -- what it gives: the state r with the machine value u, and the work buffer
-    abbrev Over-said : Val → Run × List ℕ → Type 0
-    Over-said u z = Runs c (p .query) L₁ (startRun (p .query)) w₀ (z .1) (z .0) × Is R.the-row (z .0) (u ∷ []) × (length (z .1) ≡ length w₀)
+    abbrev Over-said : Val → State × List ℕ → Type 0
+    Over-said u z = Runs c (p .query) L₁ (startState (p .query)) w₀ (z .1) (z .0) × Is R.the-row (z .0) (u ∷ []) × (length (z .1) ≡ length w₀)
 
     gave-over : (x : Three) (u : Val) → ent 𝓤 (⋆ 𝓤 H A (raw (Over 𝓤 H A mem run .post (to-over x) u) ∷ AllKept x ∷ []))
-        (mean 𝓤 H A (later (some (λ (z : Run × List ℕ). (Cells c ⊛ Work (z .1) ⊛ Steps L₁) ⊛ raw (fact 𝓤 (Over-said u z))))))
+        (mean 𝓤 H A (later (some (λ (z : State × List ℕ). (Cells c ⊛ Work (z .1) ⊛ Steps L₁) ⊛ raw (fact 𝓤 (Over-said u z))))))
     gave-over x u =
         qed W (raw (Over 𝓤 H A mem run .post (to-over x) u) ∷ AllKept x ∷ []) ∵ updating ! $
-        gives W ! tt over.ended (over.clauses 𝓤 H A mem run) (to-over x) u (λ r ws. (ws .0 ≡ L₁) × Runs c (p .query) L₁ (startRun (p .query)) w₀ (ws .1 .1 .0) r) (λ r ws. id⊢ 𝓤 _) (λ r ws e is.
+        gives W ! tt over.ended (over.clauses 𝓤 H A mem run) (to-over x) u (λ r ws. (ws .0 ≡ L₁) × Runs c (p .query) L₁ (startState (p .query)) w₀ (ws .1 .1 .0) r) (λ r ws. id⊢ 𝓤 _) (λ r ws e is.
         move ! (1 ∷ []) $ fsplit ! $ fsplit ! $ move ! (1 ∷ []) $ feqL ! (λ same. move ! (1 ∷ []) $ fsplit ! $ move ! (1 ∷ []) $ fsplit ! $ fsplit ! $ move ! (1 ∷ []) $ feqL ! (λ same′.
         -- [work's last list; true; true; the steps' last list; the tokens; what is kept]
         move ! (4 ∷ []) $ use1 W (‵ (flft (x .0 .0 ∷ []) fullShare) ⊛ ‵ (flft (x .1 .0 .0 ∷ []) fullShare) ⊛ ‵ (flft (x .1 .1 .0 ∷ []) fullShare) ⊛ ‵ ftrue) (id⊢ 𝓤 _) $ split ! $ move ! (6 ∷ []) $ split ! $
@@ -491,15 +495,15 @@ module _ {M : Type 1} (𝓤 : URA M) (H : Heap 𝓤) (A : Atoms 𝓤) (W : Given
         move ! (2 ∷ []) $ split ! $ move ! (3 ∷ []) $ split ! $ move ! (2 ∷ 0 ∷ []) $ use2 W (later (Cells c)) (seen i32 κc qc γc bc oc (length c₀) 𝓤 H A (named 1) W c c-len gc (x .1 .0)) $ await ! tt $
         -- [the cells; what is kept of work; its token, and true; the steps; work's last list; true; true]
         move ! (2 ∷ []) $ split ! $ move ! (0 ∷ 3 ∷ 5 ∷ []) $ use3 W (later (Work (ws .1 .1 .0))) (comes u16 κw qw γw bw ow (length w₀) 𝓤 H A (named 2) W (named 2) w₀ refl gw (x .1 .1) (ws .1 .1 .0) same′) $ await ! tt $
-        at-once ! $ show ! (λ (z : Run × List ℕ). mean 𝓤 H A ((Cells c ⊛ Work (z .1) ⊛ Steps L₁) ⊛ raw (fact 𝓤 (Over-said u z)))) (r, ws .1 .1 .0) $ says ! (e .1, is, same′) $ keep ! (2 ∷ 0 ∷ 3 ∷ []) $ done !)))
+        at-once ! $ show ! (λ (z : State × List ℕ). mean 𝓤 H A ((Cells c ⊛ Work (z .1) ⊛ Steps L₁) ⊛ raw (fact 𝓤 (Over-said u z)))) (r, ws .1 .1 .0) $ says ! (e .1, is, same′) $ keep ! (2 ∷ 0 ∷ 3 ∷ []) $ done !)))
 
     -- ---- `conclude`, for the state r and the work buffer w
 
-    module _ (r : Run) (r-is : RunIs r) (w : List ℕ) where
+    module _ (r : State) (r-is : RunIs r) (w : List ℕ) where
       abbrev to-end : End 𝓤 H A mem run .Ghost
       to-end = (((κc, (κw, (κv, tt))), (qc, (qw, (qv, tt))), tt, (xc γc c, (xw γw w, (xv γv v₀, (p, (r, tt))))), (sc ∷ [], (sw ∷ [], (sv ∷ [], (prep-val p ∷ [], (run-val r ∷ [], tt)))))), tt)
 
-      asks-end : Within p → ent 𝓤 (⋆ 𝓤 H A (Cells c ∷ Work w ∷ Result v₀ ∷ [])) (End 𝓤 H A mem run .pre to-end)
+      asks-end : TablesWithin p → ent 𝓤 (⋆ 𝓤 H A (Cells c ∷ Work w ∷ Result v₀ ∷ [])) (End 𝓤 H A mem run .pre to-end)
       asks-end within =
           qed W (Cells c ∷ Work w ∷ Result v₀ ∷ []) ∵ nothing ! $ owned ! R.the-row (Is R.the-row) (LL.makes R.the-type R′.the-plain 𝓤 H A) r _ r-is $ fjoin ! $ owned ! P.the-row (Is P.the-row) (LL.makes P.the-type P′.the-plain 𝓤 H A) p _ p-is $ fjoin ! $ nothing ! $
           -- [true; what p and r own; cells; work; result]
@@ -574,8 +578,8 @@ module _ {M : Type 1} (𝓤 : URA M) (H : Heap 𝓤) (A : Atoms 𝓤) (W : Given
         land ! (from ! (stop !)) (init ! 61 refl (LL.lawful Q.the-type Q′.the-laws 𝓤 H A W .typed (p .query) _ v-is₇ .0)) $ rewrite ! 61 (λ (v : Val). ‵ (fat fullShare τ-query l8 0 v)) (ap only (LL.tells Q.the-type Q′.the-laws (p .query) _ v-is₇)) refl $
         use0 W (raw (StartOf 𝓤 H A mem run .pre (to-start p))) (asks-one W P.the-row (LL.makes P.the-type P′.the-plain 𝓤 H A) p _ p-is) $
         calls-at ! fm (StartOf 𝓤 H A mem run) known-start (to-start p) (and-then ! (load ! (from ! (stop !)) (look ! 66 refl)) (no-more !)) (λ u₈.
-        answers W ! tt start.ended (start.clauses 𝓤 H A mem run) (to-start p) u₈ (λ z. z ≡ startRun (p .query)) (λ z e. id⊢ 𝓤 _) (λ z₈ e₈ z-is₈. let v-is₈ = subst (λ z. Is R.the-row z (u₈ ∷ [])) e₈ z-is₈ in let is₈ = subst (Is R.the-row (startRun (p .query))) (LL.tells R.the-type R′.the-laws (startRun (p .query)) _ v-is₈) v-is₈ in drop ! $ drop ! $
-        land ! (from ! (stop !)) (init ! 59 refl (LL.lawful R.the-type R′.the-laws 𝓤 H A W .typed (startRun (p .query)) _ v-is₈ .0)) $ rewrite ! 59 (λ (v : Val). ‵ (fat fullShare τ-run l9 0 v)) (ap only (LL.tells R.the-type R′.the-laws (startRun (p .query)) _ v-is₈)) refl $
+        answers W ! tt start.ended (start.clauses 𝓤 H A mem run) (to-start p) u₈ (λ z. z ≡ startState (p .query)) (λ z e. id⊢ 𝓤 _) (λ z₈ e₈ z-is₈. let v-is₈ = subst (λ z. Is R.the-row z (u₈ ∷ [])) e₈ z-is₈ in let is₈ = subst (Is R.the-row (startState (p .query))) (LL.tells R.the-type R′.the-laws (startState (p .query)) _ v-is₈) v-is₈ in drop ! $ drop ! $
+        land ! (from ! (stop !)) (init ! 59 refl (LL.lawful R.the-type R′.the-laws 𝓤 H A W .typed (startState (p .query)) _ v-is₈ .0)) $ rewrite ! 59 (λ (v : Val). ‵ (fat fullShare τ-run l9 0 v)) (ap only (LL.tells R.the-type R′.the-laws (startState (p .query)) _ v-is₈)) refl $
         -- `put_plan`
         assigns ! (addr ! (from ! (fld ! refl (hop ! (look-in ! 67 (sub ! 0 refl (whole !))) (stop !))))) (from ! (stop !)) (init ! 35 refl (tt, tt)) $
         assigns ! (agg ! (and-then ! (load ! (from ! (stop !)) (look ! 35 refl)) (and-then ! (load ! (from ! (fld ! refl (stop !))) (look-in ! 67 (sub ! 1 refl (whole !)))) (no-more !)))) (from ! (stop !)) (init ! 33 refl (tt, (tt, (record { fits = gs .0 }, tt)))) $
@@ -593,7 +597,7 @@ module _ {M : Type 1} (𝓤 : URA M) (H : Heap 𝓤) (A : Atoms 𝓤) (W : Given
         move ! (2 ∷ 3 ∷ 0 ∷ []) $ use3 W (later (some (λ (x : Three p p-is c (e₁ .2) is₇ is₈). raw (Over 𝓤 H A mem run .pre (to-over p p-is c (e₁ .2) is₇ is₈ x)) ⊛ AllKept p p-is c (e₁ .2) is₇ is₈ x))) (asks-over p p-is c (e₁ .2) is₇ is₈) $ await ! tt $ pick ! (λ x₃. split ! $
         -- [what `run_over` asks; what is kept; text; result; _36; …]
         calls-at ! fm (Over 𝓤 H A mem run) known-over (to-over p p-is c (e₁ .2) is₇ is₈ x₃) (and-then ! (load ! (from ! (stop !)) (look ! 28 refl)) (and-then ! (load ! (from ! (stop !)) (look ! 24 refl)) (and-then ! (load ! (from ! (stop !)) (look ! 20 refl)) (and-then ! (load ! (from ! (stop !)) (look ! 60 refl)) (and-then ! (load ! (from ! (stop !)) (look ! 58 refl)) (no-more !)))))) (λ u₃.
-        use2 W (later (some (λ (z : Run × List ℕ). (Cells c ⊛ Work (z .1) ⊛ Steps (laid-in (p .plan) n)) ⊛ raw (fact 𝓤 (Over-said p p-is c (e₁ .2) is₇ is₈ u₃ z))))) (gave-over p p-is c (e₁ .2) is₇ is₈ x₃ u₃) $ await ! tt $ pick ! (λ z₃. split ! $ move ! (1 ∷ []) $ heard ! (Over-said p p-is c (e₁ .2) is₇ is₈ u₃ z₃) (λ e₃. split ! $ move ! (1 ∷ []) $ split ! $
+        use2 W (later (some (λ (z : State × List ℕ). (Cells c ⊛ Work (z .1) ⊛ Steps (laid-in (p .plan) n)) ⊛ raw (fact 𝓤 (Over-said p p-is c (e₁ .2) is₇ is₈ u₃ z))))) (gave-over p p-is c (e₁ .2) is₇ is₈ x₃ u₃) $ await ! tt $ pick ! (λ z₃. split ! $ move ! (1 ∷ []) $ heard ! (Over-said p p-is c (e₁ .2) is₇ is₈ u₃ z₃) (λ e₃. split ! $ move ! (1 ∷ []) $ split ! $
         let r = z₃ .0 in let w = z₃ .1 in let r-is = subst (Is R.the-row r) (LL.tells R.the-type R′.the-laws r _ (e₃ .1)) (e₃ .1) in
         -- [work; steps; cells; text; result; _36; …]
         land ! (from ! (stop !)) (init ! 57 refl (LL.lawful R.the-type R′.the-laws 𝓤 H A W .typed r _ (e₃ .1) .0)) $ rewrite ! 57 (λ (v : Val). ‵ (fat fullShare τ-run l10 0 v)) (ap only (LL.tells R.the-type R′.the-laws r _ (e₃ .1))) refl $
@@ -652,12 +656,12 @@ report-into-spec 𝓤 H 𝓜 𝓖 𝓡 =
     (tables 𝓤 H 𝓜 𝓡 code.env .C) (tables 𝓤 H 𝓜 𝓡 code.env .Λ) (framed 𝓤 H 𝓜 𝓖 𝓡 code.env)
     (known 𝓤 H 𝓜 𝓖 𝓡 code.env (Short 𝓤 H A (𝓜 .mem) (𝓡 .run)) short-def.name short-def.routine code.calls-engine·lent·too-little (short-thm.met 𝓤 H 𝓜 𝓖 𝓡))
     (known 𝓤 H 𝓜 𝓖 𝓡 code.env (Refuse 𝓤 H A (𝓜 .mem) (𝓡 .run)) refuse-def.name refuse-def.routine code.calls-engine·planned·refused (refuse-thm.met 𝓤 H 𝓜 𝓖 𝓡))
-    (known 𝓤 H 𝓜 𝓖 𝓡 code.env (Prep 𝓤 H A (𝓜 .mem) (𝓡 .run)) prep-def.name prep-def.routine code.calls-engine·prepare·prepare (prep-thm.met 𝓤 H 𝓜 𝓖 𝓡))
-    (known 𝓤 H 𝓜 𝓖 𝓡 code.env (Put 𝓤 H A (𝓜 .mem) (𝓡 .run)) put-def.name put-def.routine code.calls-runner·list·put-plan (put-thm.met 𝓤 H 𝓜 𝓖 𝓡))
-    (known 𝓤 H 𝓜 𝓖 𝓡 code.env (PlanOf 𝓤 H A (𝓜 .mem) (𝓡 .run)) plan-def.name plan-def.routine code.calls-ready·prepared·plan-of (plan-thm.met 𝓤 H 𝓜 𝓖 𝓡))
-    (known 𝓤 H 𝓜 𝓖 𝓡 code.env (QueryOf 𝓤 H A (𝓜 .mem) (𝓡 .run)) query-def.name query-def.routine code.calls-ready·prepared·query-of (query-thm.met 𝓤 H 𝓜 𝓖 𝓡))
-    (known 𝓤 H 𝓜 𝓖 𝓡 code.env (StartOf 𝓤 H A (𝓜 .mem) (𝓡 .run)) start-def.name start-def.routine code.calls-engine·prepare·start-of (start-thm.met 𝓤 H 𝓜 𝓖 𝓡))
-    (known 𝓤 H 𝓜 𝓖 𝓡 code.env (Over 𝓤 H A (𝓜 .mem) (𝓡 .run)) over-def.name over-def.routine code.calls-runner·over·run-over (over-thm.met 𝓤 H 𝓜 𝓖 𝓡))
+    (known 𝓤 H 𝓜 𝓖 𝓡 code.env (Prep 𝓤 H A (𝓜 .mem) (𝓡 .run)) prep-def.name prep-def.routine code.calls-prepare·prepare·prepare (prep-thm.met 𝓤 H 𝓜 𝓖 𝓡))
+    (known 𝓤 H 𝓜 𝓖 𝓡 code.env (Put 𝓤 H A (𝓜 .mem) (𝓡 .run)) put-def.name put-def.routine code.calls-step-list·list·put-plan (put-thm.met 𝓤 H 𝓜 𝓖 𝓡))
+    (known 𝓤 H 𝓜 𝓖 𝓡 code.env (PlanOf 𝓤 H A (𝓜 .mem) (𝓡 .run)) plan-def.name plan-def.routine code.calls-prepare·prepared·plan-of (plan-thm.met 𝓤 H 𝓜 𝓖 𝓡))
+    (known 𝓤 H 𝓜 𝓖 𝓡 code.env (QueryOf 𝓤 H A (𝓜 .mem) (𝓡 .run)) query-def.name query-def.routine code.calls-prepare·prepared·query-of (query-thm.met 𝓤 H 𝓜 𝓖 𝓡))
+    (known 𝓤 H 𝓜 𝓖 𝓡 code.env (StartOf 𝓤 H A (𝓜 .mem) (𝓡 .run)) start-def.name start-def.routine code.calls-engine·planned·start-of (start-thm.met 𝓤 H 𝓜 𝓖 𝓡))
+    (known 𝓤 H 𝓜 𝓖 𝓡 code.env (Over 𝓤 H A (𝓜 .mem) (𝓡 .run)) over-def.name over-def.routine code.calls-step-list·over·run-over (over-thm.met 𝓤 H 𝓜 𝓖 𝓡))
     (known 𝓤 H 𝓜 𝓖 𝓡 code.env (End 𝓤 H A (𝓜 .mem) (𝓡 .run)) end-def.name end-def.routine code.calls-engine·planned·conclude (end-thm.met 𝓤 H 𝓜 𝓖 𝓡))
     (known 𝓤 H 𝓜 𝓖 𝓡 code.env (ListOf 𝓤 H A (𝓜 .mem) (𝓡 .run)) list-def.name list-def.routine code.calls-engine·planned·list-of (list-thm.met 𝓤 H 𝓜 𝓖 𝓡))
     (known 𝓤 H 𝓜 𝓖 𝓡 code.env (ReplyOf 𝓤 H A (𝓜 .mem) (𝓡 .run)) reply-def.name reply-def.routine code.calls-engine·planned·reply-of (reply-thm.met 𝓤 H 𝓜 𝓖 𝓡))))

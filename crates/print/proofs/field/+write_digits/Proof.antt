@@ -1,12 +1,12 @@
--- `print::field::write_digits` meets its contract: one law of Fields for each way out. The measure is `most`. Assumes nothing.
+-- `print::field::write_digits` meets its contract: one law of FieldsLaws for each way out. The measure is `most`. Assumes nothing.
 use Prim.Native.Nat.{ℕ, _<_}
 use mathlib.Core.Path.{sym}
 use native.Mathlib.Omega.{arith}
 use borrow.Author.Needs.{needs}
-use Rattle.print.specs.Output.{written-as, written-then, written-none}
-use Rattle.print.specs.Fields.{digits-none, digits-last, digits-more}
 use borrow.Fn.Kinds.{In}
 use borrow.Fn.PlainCycle.{Measures, is, falls, and}
+use Rattle.print.proofs.laws.OutputLaws.{written-as, written-then, written-none}
+use Rattle.print.proofs.laws.FieldsLaws.{digits-none, digits-last, digits-more}
 use Rattle.print.proofs.field.write_digits.Reads as write-digits
 use Rattle.print.proofs.field.write_digits.Kinds as write-digits-kinds
 use Rattle.print.proofs.field.+write_digits.Lts-write_digits as write-digits-lts

@@ -1,9 +1,9 @@
 -- `print::field::one_digit` meets its contract by `digits-last`. Assumes nothing.
 use mathlib.Core.Path.{sym}
 use native.Mathlib.Omega.{arith}
-use Rattle.print.specs.Output.{written-as}
-use Rattle.print.specs.Fields.{digits-last}
 use borrow.Author.Needs.{needs}
+use Rattle.print.proofs.laws.OutputLaws.{written-as}
+use Rattle.print.proofs.laws.FieldsLaws.{digits-last}
 use Rattle.print.proofs.field.one_digit.Statement.{statement}
 use Rattle.print.proofs.field.one_digit.Tie as tie
 

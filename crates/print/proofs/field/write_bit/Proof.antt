@@ -1,9 +1,9 @@
 -- `print::field::write_bit` meets its contract: a bit that is set by `bit-set`, another by `bit-clear`. Assumes nothing.
 use mathlib.Core.Path.{sym, _∙_}
 use native.Mathlib.Omega.{arith}
-use Rattle.print.specs.Output.{written-as, written-none}
-use Rattle.print.specs.Fields.{bit-set, bit-clear}
 use borrow.Author.Needs.{needs}
+use Rattle.print.proofs.laws.OutputLaws.{written-as, written-none}
+use Rattle.print.proofs.laws.FieldsLaws.{bit-set, bit-clear}
 use Rattle.print.proofs.field.write_bit.Statement.{statement}
 use Rattle.print.proofs.field.write_bit.Tie as tie
 

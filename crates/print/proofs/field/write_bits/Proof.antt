@@ -4,11 +4,13 @@ use mathlib.Core.Path.{_≡_, refl, _∙_, ap}
 use Prim.Native.Nat.{_≤_, _-_, _*_}
 use native.Mathlib.Omega.{arith}
 use lib.ListN.{length}
-use Rattle.print.specs.Output.{Written, written-as, written-none}
-use Rattle.print.specs.Room.{fieldRoom}
-use Rattle.print.specs.Loops.{upTo, written-turn}
-use Rattle.print.specs.Fields.{bitField, bits-all}
 use borrow.Author.Needs.{needs}
+use Rattle.print.specs.inner.Output.{Written}
+use Rattle.print.proofs.laws.OutputLaws.{written-as, written-none}
+use Rattle.print.specs.inner.Room.{fieldRoom}
+use Rattle.print.proofs.laws.Loops.{upTo, written-turn}
+use Rattle.print.specs.inner.Fields.{bitField}
+use Rattle.print.proofs.laws.FieldsLaws.{bits-all}
 use Rattle.print.proofs.field.write_bits.Statement.{statement}
 use Rattle.print.proofs.field.write_bits.Tie as tie
 

@@ -2,12 +2,13 @@
 -- `entry-number`. Assumes nothing.
 use mathlib.Core.Path.{sym}
 use native.Mathlib.Omega.{arith}
+use borrow.Author.Needs.{needs}
 use Rattle.cells.specs.Row.{blankRow}
 use Rattle.text.specs.Bytes.{bytes, tab}
 use Rattle.text.specs.Print.{printNumber}
-use Rattle.print.specs.Output.{written-as, written-then}
-use Rattle.print.specs.Fields.{field, numberField, digits-one, digits-two, digits-three, entry-few, entry-blank, entry-number}
-use borrow.Author.Needs.{needs}
+use Rattle.print.proofs.laws.OutputLaws.{written-as, written-then}
+use Rattle.print.specs.inner.Fields.{printedField, printedNumber}
+use Rattle.print.proofs.laws.FieldsLaws.{digits-one, digits-two, digits-three, entry-few, entry-blank, entry-number}
 use Rattle.print.proofs.field.write_entry.Statement.{statement}
 use Rattle.print.proofs.field.write_entry.Tie as tie
 
@@ -77,7 +78,7 @@ same-length-5 : tie.Need-same-length-5
 same-length-5 c = search needs
 
 returns-5 : tie.Need-returns-5
-unfolding tab blankRow numberField field printNumber
+unfolding tab blankRow printedNumber printedField printNumber
 returns-5 c =
     let d = c .before .before in
     let i = d .before .before in

@@ -1,9 +1,9 @@
 -- `print::field::write_number` meets its contract: the tab and the digits. Assumes nothing.
+use borrow.Author.Needs.{needs}
 use Rattle.text.specs.Bytes.{tab}
 use Rattle.text.specs.Print.{printNumber}
-use Rattle.print.specs.Output.{written-then}
-use Rattle.print.specs.Fields.{field, numberField}
-use borrow.Author.Needs.{needs}
+use Rattle.print.proofs.laws.OutputLaws.{written-then}
+use Rattle.print.specs.inner.Fields.{printedField, printedNumber}
 use Rattle.print.proofs.field.write_number.Statement.{statement}
 use Rattle.print.proofs.field.write_number.Tie as tie
 
@@ -17,7 +17,7 @@ same-length : tie.Need-same-length
 same-length c = search needs
 
 returns : tie.Need-returns
-unfolding numberField field tab printNumber
+unfolding printedNumber printedField tab printNumber
 returns c = let d = c .before .before in written-then (d .before .before .before .before .put .ensures) (d .write-digits .ensures)
 
 pub write-number-spec : {M : Type 1} → statement M

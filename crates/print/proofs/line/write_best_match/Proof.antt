@@ -1,8 +1,8 @@
 -- `print::line::write_best_match` meets its contract: the letter and the line feed. Assumes nothing.
+use borrow.Author.Needs.{needs}
 use Rattle.text.specs.Bytes.{bytes, lineFeed}
 use Rattle.text.specs.Print.{printFields}
-use Rattle.print.specs.Output.{written-then}
-use borrow.Author.Needs.{needs}
+use Rattle.print.proofs.laws.OutputLaws.{written-then}
 use Rattle.print.proofs.line.write_best_match.Statement.{statement}
 use Rattle.print.proofs.line.write_best_match.Tie as tie
 

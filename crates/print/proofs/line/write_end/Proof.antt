@@ -1,10 +1,10 @@
 -- `print::line::write_end` meets its contract: its parts one behind the other. Assumes nothing.
 use mathlib.Core.Path.{sym}
 use native.Mathlib.Omega.{arith}
-use Rattle.text.specs.Bytes.{lineFeed}
-use Rattle.print.specs.Output.{written-as, written-then}
-use Rattle.print.specs.Lines.{end-line}
 use borrow.Author.Needs.{needs}
+use Rattle.text.specs.Bytes.{lineFeed}
+use Rattle.print.proofs.laws.OutputLaws.{written-as, written-then}
+use Rattle.print.proofs.laws.Lines.{end-line}
 use Rattle.print.proofs.line.write_end.Statement.{statement}
 use Rattle.print.proofs.line.write_end.Tie as tie
 

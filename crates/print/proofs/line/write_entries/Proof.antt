@@ -5,11 +5,13 @@ use Prim.Native.Nat.{_≤_, _-_, _+_, _*_}
 use native.Mathlib.Omega.{arith}
 use denote.Ref.{now}
 use lib.ListN.{length, getD}
-use Rattle.print.specs.Output.{Written, written-as, written-none}
-use Rattle.print.specs.Room.{fieldRoom}
-use Rattle.print.specs.Loops.{upTo, written-turn}
-use Rattle.print.specs.Fields.{entryField, entries-all}
 use borrow.Author.Needs.{needs}
+use Rattle.print.specs.inner.Output.{Written}
+use Rattle.print.proofs.laws.OutputLaws.{written-as, written-none}
+use Rattle.print.specs.inner.Room.{fieldRoom}
+use Rattle.print.proofs.laws.Loops.{upTo, written-turn}
+use Rattle.print.specs.inner.Fields.{entryField}
+use Rattle.print.proofs.laws.FieldsLaws.{entries-all}
 use Rattle.print.proofs.line.write_entries.Statement.{statement}
 use Rattle.print.proofs.line.write_entries.Tie as tie
 

@@ -1,10 +1,10 @@
 -- `print::line::write_kind` meets its contract: no letter by `kind-none`, a letter of the table by `kind-letter`. Assumes nothing.
 use mathlib.Core.Path.{sym}
 use native.Mathlib.Omega.{arith}
-use Rattle.text.specs.Bytes.{bytes, tab}
-use Rattle.print.specs.Output.{written-as, written-then}
-use Rattle.print.specs.Lines.{kind-none, kind-letter}
 use borrow.Author.Needs.{needs}
+use Rattle.text.specs.Bytes.{bytes, tab}
+use Rattle.print.proofs.laws.OutputLaws.{written-as, written-then}
+use Rattle.print.proofs.laws.Lines.{kind-none, kind-letter}
 use Rattle.print.proofs.line.write_kind.Statement.{statement}
 use Rattle.print.proofs.line.write_kind.Tie as tie
 

@@ -1,10 +1,10 @@
 -- `print::line::write_step` meets its contract: one law of Lines for each kind. Assumes nothing.
 use mathlib.Core.Path.{sym}
 use native.Mathlib.Omega.{arith}
-use Rattle.text.specs.Bytes.{bytes}
-use Rattle.print.specs.Output.{written-as}
-use Rattle.print.specs.Lines.{blanking-line, best-match-line}
 use borrow.Author.Needs.{needs}
+use Rattle.text.specs.Bytes.{bytes}
+use Rattle.print.proofs.laws.OutputLaws.{written-as}
+use Rattle.print.proofs.laws.Lines.{blanking-line, best-match-line}
 use Rattle.print.proofs.line.write_step.Statement.{statement}
 use Rattle.print.proofs.line.write_step.Tie as tie
 

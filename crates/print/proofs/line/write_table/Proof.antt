@@ -1,6 +1,6 @@
 -- `print::line::write_table` meets its contract: the letter, and the rest of the line. Assumes nothing.
-use Rattle.print.specs.Output.{written-then}
 use borrow.Author.Needs.{needs}
+use Rattle.print.proofs.laws.OutputLaws.{written-then}
 use Rattle.print.proofs.line.write_table.Statement.{statement}
 use Rattle.print.proofs.line.write_table.Tie as tie
 

@@ -7,12 +7,13 @@ use native.Mathlib.Nat.{zero-mul, suc-mul, le-refl}
 use native.Mathlib.Numerals.{add-one}
 use denote.Ref.{now}
 use lib.ListN.{length, take, drop}
-use Rattle.print.specs.Output.{Written, written-as, written-none}
-use Rattle.print.specs.Room.{rowRoom}
-use Rattle.print.specs.Loops.{upTo, written-turn}
-use Rattle.text.specs.Print.{printRow}
-use Rattle.print.specs.Rows.{row-fits, rows-all}
 use borrow.Author.Needs.{needs}
+use Rattle.text.specs.Print.{printRow}
+use Rattle.print.specs.inner.Output.{Written}
+use Rattle.print.proofs.laws.OutputLaws.{written-as, written-none}
+use Rattle.print.specs.inner.Room.{rowRoom}
+use Rattle.print.proofs.laws.Loops.{upTo, written-turn}
+use Rattle.print.proofs.laws.RowsLaws.{row-fits, rows-all}
 use Rattle.print.proofs.lines.write_rows.Statement.{statement}
 use Rattle.print.proofs.lines.write_rows.Tie as tie
 

@@ -4,12 +4,13 @@ use mathlib.Core.Path.{_≡_, refl, _∙_, ap}
 use Prim.Native.Nat.{_≤_, _-_, _*_}
 use native.Mathlib.Omega.{arith}
 use lib.ListN.{length, getD}
-use Rattle.text.specs.Bytes.{bytes}
-use Rattle.print.specs.Output.{Written, written-as, written-none}
-use Rattle.print.specs.Room.{tableRoom}
-use Rattle.print.specs.Loops.{upTo, written-turn}
-use Rattle.print.specs.Lines.{setLine, sets-all}
 use borrow.Author.Needs.{needs}
+use Rattle.text.specs.Bytes.{bytes}
+use Rattle.print.specs.inner.Output.{Written}
+use Rattle.print.proofs.laws.OutputLaws.{written-as, written-none}
+use Rattle.print.specs.inner.Room.{tableRoom}
+use Rattle.print.proofs.laws.Loops.{upTo, written-turn}
+use Rattle.print.proofs.laws.Lines.{setLine, sets-all}
 use Rattle.print.proofs.lines.write_sets.Statement.{statement}
 use Rattle.print.proofs.lines.write_sets.Tie as tie
 

@@ -4,12 +4,13 @@ use mathlib.Core.Path.{_≡_, refl, _∙_, ap}
 use Prim.Native.Nat.{_≤_, _-_, _*_}
 use native.Mathlib.Omega.{arith}
 use lib.ListN.{length, getD}
-use Rattle.print.specs.Output.{Written, written-as, written-none}
-use Rattle.print.specs.Room.{stepRoom}
-use Rattle.print.specs.Loops.{upTo, written-turn, upTo-flatMap}
-use Rattle.plan.specs.Steps.{zeroStep}
-use Rattle.text.specs.Print.{printStep}
 use borrow.Author.Needs.{needs}
+use Rattle.vocabulary.specs.Steps.{zeroStep}
+use Rattle.text.specs.Print.{printStep}
+use Rattle.print.specs.inner.Output.{Written}
+use Rattle.print.proofs.laws.OutputLaws.{written-as, written-none}
+use Rattle.print.specs.inner.Room.{stepRoom}
+use Rattle.print.proofs.laws.Loops.{upTo, written-turn, upTo-flatMap}
 use Rattle.print.proofs.lines.write_steps.Statement.{statement}
 use Rattle.print.proofs.lines.write_steps.Tie as tie
 

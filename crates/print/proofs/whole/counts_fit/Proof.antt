@@ -1,7 +1,7 @@
 -- `print::whole::counts_fit` meets its contract: one law of PrintedLaws for each way out. Assumes nothing.
 use mathlib.Core.Path.{sym, _∙_}
-use Rattle.print.specs.PrintedLaws.{many-steps, few-steps}
 use borrow.Author.Needs.{needs}
+use Rattle.print.proofs.laws.PrintedLaws.{many-steps, few-steps}
 use Rattle.print.proofs.whole.counts_fit.Statement.{statement}
 use Rattle.print.proofs.whole.counts_fit.Tie as tie
 

@@ -1,8 +1,8 @@
 -- `print::whole::print_refusal` meets its contract: one law of PrintedLaws for each way out. Assumes nothing.
 use mathlib.Core.Path.{refl}
 use native.Mathlib.Omega.{arith}
-use Rattle.print.specs.PrintedLaws.{prints-no-room, prints-bytes}
 use borrow.Author.Needs.{needs}
+use Rattle.print.proofs.laws.PrintedLaws.{prints-no-room, prints-bytes}
 use Rattle.print.proofs.whole.print_refusal.Statement.{statement}
 use Rattle.print.proofs.whole.print_refusal.Tie as tie
 

@@ -3,7 +3,7 @@ use mathlib.Core.Path.{sym}
 use Prim.Native.Nat.{_*_, _≤_}
 use native.Mathlib.Nat.{mul-le-mul}
 use native.Mathlib.Omega.{arith}
-use Rattle.print.specs.PrintedLaws.{many-tables, many-rows, few-rows}
+use Rattle.print.proofs.laws.PrintedLaws.{many-tables, many-rows, few-rows}
 use Rattle.print.proofs.whole.rows_fit.Statement.{statement}
 use Rattle.print.proofs.whole.rows_fit.Tie as tie
 

@@ -1,9 +1,9 @@
 -- `print::whole::write_report` meets its contract: its parts one behind the other, in the room of an answer. Assumes nothing.
 use mathlib.Core.Path.{refl}
 use native.Mathlib.Omega.{arith}
-use Rattle.print.specs.Output.{written-as, written-then}
-use Rattle.print.specs.Printed.{reportBytes}
 use borrow.Author.Needs.{needs}
+use Rattle.print.proofs.laws.OutputLaws.{written-as, written-then}
+use Rattle.print.specs.inner.Printed.{reportBytes}
 use Rattle.print.proofs.whole.write_report.Statement.{statement}
 use Rattle.print.proofs.whole.write_report.Tie as tie
 

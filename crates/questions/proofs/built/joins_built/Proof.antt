@@ -2,9 +2,9 @@
 use mathlib.Core.Path.{_≡_, sym, _∙_}
 use native.Mathlib.Omega.{arith}
 use lib.ListN.{length, length-map}
-use Rattle.questions.specs.Kept.{too-many}
-use Rattle.questions.specs.BuiltQuestions.{joins-asked}
 use borrow.Author.Needs.{needs}
+use Rattle.questions.proofs.laws.Kept.{too-many}
+use Rattle.questions.proofs.laws.BuiltQuestions.{joins-asked}
 use Rattle.questions.proofs.built.joins_built.Statement.{statement}
 use Rattle.questions.proofs.built.joins_built.Tie as tie
 

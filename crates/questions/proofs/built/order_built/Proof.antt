@@ -2,10 +2,10 @@
 use mathlib.Core.Path.{_≡_, sym, _∙_}
 use native.Mathlib.Omega.{arith}
 use lib.ListN.{length, length-map}
-use Rattle.plan.specs.OrderWords.{orderIn}
-use Rattle.questions.specs.Kept.{too-many}
-use Rattle.questions.specs.BuiltQuestions.{no-pairs, pairs-asked}
 use borrow.Author.Needs.{needs}
+use Rattle.plan.specs.inner.OrderWords.{orderIn}
+use Rattle.questions.proofs.laws.Kept.{too-many}
+use Rattle.questions.proofs.laws.BuiltQuestions.{no-pairs, pairs-asked}
 use Rattle.questions.proofs.built.order_built.Statement.{statement}
 use Rattle.questions.proofs.built.order_built.Tie as tie
 

@@ -1,9 +1,9 @@
 -- `questions::built::pair_fits` meets its contract: each test in its turn. Assumes nothing.
 use mathlib.Core.Path.{sym, ap, _∙_}
 use mathlib.Core.Bool.{not}
-use Rattle.plan.specs.Stored.{pairIn}
-use Rattle.questions.specs.BuiltWordLaws.{left-high, right-high, sides-same, left-used, right-decides}
 use borrow.Author.Needs.{needs}
+use Rattle.vocabulary.specs.inner.Stored.{pairIn}
+use Rattle.questions.proofs.laws.BuiltWordLaws.{left-high, right-high, sides-same, left-used, right-decides}
 use Rattle.questions.proofs.built.pair_fits.Statement.{statement}
 use Rattle.questions.proofs.built.pair_fits.Tie as tie
 

@@ -1,9 +1,9 @@
 -- `questions::built::sides` meets its contract. Assumes nothing.
 use mathlib.Core.Path.{ap₂}
 use lib.Bits.{bitOr}
-use Rattle.plan.specs.Stored.{pairIn}
-use Rattle.questions.specs.BuiltWords.{sideBits}
 use borrow.Author.Needs.{needs}
+use Rattle.vocabulary.specs.inner.Stored.{pairIn}
+use Rattle.questions.specs.inner.BuiltWords.{sideBits}
 use Rattle.questions.proofs.built.sides.Statement.{statement}
 use Rattle.questions.proofs.built.sides.Tie as tie
 

@@ -5,13 +5,13 @@ use Prim.Native.Nat.{_≤_, _+_, _-_}
 use native.Mathlib.Omega.{arith}
 use lib.ListN.{length, take, drop, length-map}
 use borrow.Author.Tests.{not-true, not-false}
-use Rattle.cells.specs.TableLaws.{getD-within}
-use Rattle.plan.specs.Stored.{pairIn}
-use Rattle.plan.specs.OrderWords.{orderIn}
-use Rattle.questions.specs.Kept.{kept-drop, kept-end}
-use Rattle.questions.specs.BuiltWords.{builtFrom}
-use Rattle.questions.specs.BuiltWordLaws.{built-end, built-turn, built-stop}
 use borrow.Author.Needs.{needs}
+use Rattle.cells.proofs.laws.TableLaws.{getD-within}
+use Rattle.vocabulary.specs.inner.Stored.{pairIn}
+use Rattle.plan.specs.inner.OrderWords.{orderIn}
+use Rattle.questions.proofs.laws.Kept.{kept-drop, kept-end}
+use Rattle.questions.specs.inner.BuiltWords.{builtFrom}
+use Rattle.questions.proofs.laws.BuiltWordLaws.{built-end, built-turn, built-stop}
 use Rattle.questions.proofs.built.sides_built.Statement.{statement}
 use Rattle.questions.proofs.built.sides_built.Tie as tie
 

@@ -2,11 +2,11 @@
 use mathlib.Core.Path.{_≡_, sym, _∙_}
 use native.Mathlib.Omega.{arith}
 use lib.ListN.{length, length-map}
-use Rattle.plan.specs.Stored.{pairIn}
-use Rattle.plan.specs.OrderWords.{orderIn}
-use Rattle.questions.specs.Kept.{kept-length}
-use Rattle.questions.specs.BuiltWordLaws.{built-count, built-sides}
 use borrow.Author.Needs.{needs}
+use Rattle.vocabulary.specs.inner.Stored.{pairIn}
+use Rattle.plan.specs.inner.OrderWords.{orderIn}
+use Rattle.questions.proofs.laws.Kept.{kept-length}
+use Rattle.questions.proofs.laws.BuiltWordLaws.{built-count, built-sides}
 use Rattle.questions.proofs.built.well_built.Statement.{statement}
 use Rattle.questions.proofs.built.well_built.Tie as tie
 

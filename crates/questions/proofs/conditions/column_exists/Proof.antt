@@ -1,8 +1,8 @@
 -- `questions::conditions::column_exists` meets its contract: each test in its turn. Assumes nothing.
 use mathlib.Core.Path.{sym, _∙_}
 use borrow.Author.Tests.{not-true, not-false}
-use Rattle.questions.specs.ConditionWordLaws.{no-table, not-under, column-counted}
 use borrow.Author.Needs.{needs}
+use Rattle.questions.proofs.laws.ConditionWordLaws.{no-table, not-under, column-counted}
 use Rattle.questions.proofs.conditions.column_exists.Statement.{statement}
 use Rattle.questions.proofs.conditions.column_exists.Tie as tie
 

@@ -2,10 +2,10 @@
 use mathlib.Core.Path.{_≡_, sym, _∙_}
 use native.Mathlib.Omega.{arith}
 use lib.ListN.{length, length-map}
-use Rattle.plan.specs.Report.{noCondition}
-use Rattle.plan.specs.JoinLaws.{condition-kept}
-use Rattle.questions.specs.ConditionWordLaws.{no-condition}
 use borrow.Author.Needs.{needs}
+use Rattle.vocabulary.specs.Report.{noCondition}
+use Rattle.plan.proofs.laws.JoinLaws.{condition-kept}
+use Rattle.questions.proofs.laws.ConditionWordLaws.{no-condition}
 use Rattle.questions.proofs.conditions.condition_at.Statement.{statement}
 use Rattle.questions.proofs.conditions.condition_at.Tie as tie
 

@@ -1,8 +1,8 @@
 -- `questions::conditions::condition_fits` meets its contract: the first column, then the second side. Assumes nothing.
 use mathlib.Core.Path.{sym, _∙_}
 use borrow.Author.Tests.{not-true, not-false}
-use Rattle.questions.specs.ConditionWordLaws.{condition-not, condition-side}
 use borrow.Author.Needs.{needs}
+use Rattle.questions.proofs.laws.ConditionWordLaws.{condition-not, condition-side}
 use Rattle.questions.proofs.conditions.condition_fits.Statement.{statement}
 use Rattle.questions.proofs.conditions.condition_fits.Tie as tie
 

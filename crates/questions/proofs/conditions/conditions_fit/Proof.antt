@@ -2,9 +2,9 @@
 -- question. Assumes nothing.
 use mathlib.Core.Path.{_≡_, sym, _∙_}
 use lib.ListN.{length, length-map}
-use Rattle.questions.specs.Kept.{too-many}
-use Rattle.questions.specs.ConditionWordLaws.{fits-asked}
 use borrow.Author.Needs.{needs}
+use Rattle.questions.proofs.laws.Kept.{too-many}
+use Rattle.questions.proofs.laws.ConditionWordLaws.{fits-asked}
 use Rattle.questions.proofs.conditions.conditions_fit.Statement.{statement}
 use Rattle.questions.proofs.conditions.conditions_fit.Tie as tie
 

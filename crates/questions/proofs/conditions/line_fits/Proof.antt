@@ -3,12 +3,12 @@ use mathlib.Core.Path.{_≡_, sym, ap, _∙_}
 use Prim.Native.Nat.{ℕ, _≤_, _-_}
 use native.Mathlib.Omega.{arith}
 use borrow.Author.Tests.{not-true, not-false}
-use Rattle.rows.specs.Lists.{range, all}
-use Rattle.plan.specs.Stored.{queryIn}
-use Rattle.questions.specs.Kept.{all-end, all-stop, all-turn, range-cons, range-end}
-use Rattle.questions.specs.ConditionWords.{numberFits}
-use Rattle.questions.specs.ConditionWordLaws.{number-fits}
 use borrow.Author.Needs.{needs}
+use Rattle.rows.specs.Lists.{range, all}
+use Rattle.vocabulary.specs.inner.Stored.{queryIn}
+use Rattle.questions.proofs.laws.Kept.{all-end, all-stop, all-turn, range-cons, range-end}
+use Rattle.questions.specs.inner.ConditionWords.{numberFits}
+use Rattle.questions.proofs.laws.ConditionWordLaws.{number-fits}
 use Rattle.questions.proofs.conditions.line_fits.Statement.{statement}
 use Rattle.questions.proofs.conditions.line_fits.Tie as tie
 

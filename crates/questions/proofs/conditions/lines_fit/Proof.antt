@@ -4,18 +4,18 @@ use Prim.Native.Nat.{_≤_, _-_}
 use native.Mathlib.Omega.{arith}
 use lib.ListN.{length, drop, length-map}
 use borrow.Author.Tests.{not-true, not-false}
-use Rattle.cells.specs.TableLaws.{getD-within}
-use Rattle.rows.specs.Lists.{all}
-use Rattle.plan.specs.Stored.{queryIn}
-use Rattle.questions.specs.Kept.{all-end, all-stop, all-turn}
-use Rattle.questions.specs.ConditionWords.{joinFits}
-use Rattle.questions.specs.ConditionWordLaws.{line-next, line-end, line-fits}
 use borrow.Author.Needs.{needs}
+use Rattle.cells.proofs.laws.TableLaws.{getD-within}
+use Rattle.rows.specs.Lists.{all}
+use Rattle.vocabulary.specs.inner.Stored.{queryIn}
+use Rattle.questions.proofs.laws.Kept.{all-end, all-stop, all-turn}
+use Rattle.questions.specs.inner.ConditionWords.{conditionsUnder}
+use Rattle.questions.proofs.laws.ConditionWordLaws.{line-next, line-end, line-fits}
 use Rattle.questions.proofs.conditions.lines_fit.Statement.{statement}
 use Rattle.questions.proofs.conditions.lines_fit.Tie as tie
 
 abbrev Inv-loop : tie.InvT-loop
-Inv-loop nodes q n i₀ i = (i ≤ n) × (all (joinFits (queryIn q) nodes) (queryIn q .joins) ≡ all (joinFits (queryIn q) nodes) (drop i (queryIn q .joins)))
+Inv-loop nodes q n i₀ i = (i ≤ n) × (all (conditionsUnder (queryIn q) nodes) (queryIn q .joins) ≡ all (conditionsUnder (queryIn q) nodes) (drop i (queryIn q .joins)))
 
 abbrev μ-loop : tie.MeasureT-loop
 μ-loop nodes q n i₀ i = n - i

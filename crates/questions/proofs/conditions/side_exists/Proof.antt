@@ -1,7 +1,7 @@
 -- `questions::conditions::side_exists` meets its contract: one case for each second side. Assumes nothing.
 use mathlib.Core.Path.{sym, _∙_}
-use Rattle.questions.specs.ConditionWordLaws.{side-constant, side-same, side-other}
 use borrow.Author.Needs.{needs}
+use Rattle.questions.proofs.laws.ConditionWordLaws.{side-constant, side-same, side-other}
 use Rattle.questions.proofs.conditions.side_exists.Statement.{statement}
 use Rattle.questions.proofs.conditions.side_exists.Tie as tie
 

@@ -1,7 +1,7 @@
 -- `questions::crossing::joins_cross` meets its contract: over the words of the nodes it is the question. Assumes nothing.
 use mathlib.Core.Path.{_∙_}
-use Rattle.questions.specs.ConditionWordLaws.{crosses-asked}
 use borrow.Author.Needs.{needs}
+use Rattle.questions.proofs.laws.ConditionWordLaws.{crosses-asked}
 use Rattle.questions.proofs.crossing.joins_cross.Statement.{statement}
 use Rattle.questions.proofs.crossing.joins_cross.Tie as tie
 

@@ -2,12 +2,12 @@
 use mathlib.Core.Path.{_≡_, sym, ap, _∙_}
 use Prim.Native.Nat.{ℕ, _≤_, _-_}
 use native.Mathlib.Omega.{arith}
-use Rattle.rows.specs.Lists.{range, any}
-use Rattle.plan.specs.Stored.{queryIn}
-use Rattle.questions.specs.Kept.{any-end, any-stop, any-turn, range-cons, range-end}
-use Rattle.questions.specs.ConditionWords.{numberCrosses}
-use Rattle.questions.specs.ConditionWordLaws.{number-crosses}
 use borrow.Author.Needs.{needs}
+use Rattle.rows.specs.Lists.{range, any}
+use Rattle.vocabulary.specs.inner.Stored.{queryIn}
+use Rattle.questions.proofs.laws.Kept.{any-end, any-stop, any-turn, range-cons, range-end}
+use Rattle.questions.specs.inner.ConditionWords.{numberCrosses}
+use Rattle.questions.proofs.laws.ConditionWordLaws.{number-crosses}
 use Rattle.questions.proofs.crossing.line_crosses.Statement.{statement}
 use Rattle.questions.proofs.crossing.line_crosses.Tie as tie
 

@@ -4,13 +4,13 @@ use Prim.Native.Nat.{_≤_, _-_}
 use native.Mathlib.Omega.{arith}
 use lib.ListN.{length, drop, length-map}
 use borrow.Author.Tests.{not-true, not-false}
-use Rattle.cells.specs.TableLaws.{getD-within}
-use Rattle.rows.specs.Lists.{all}
-use Rattle.plan.specs.Stored.{queryIn}
-use Rattle.questions.specs.Kept.{all-end, all-stop, all-turn}
-use Rattle.questions.specs.ConditionWords.{joinCrosses}
-use Rattle.questions.specs.ConditionWordLaws.{line-next, line-end, line-crosses}
 use borrow.Author.Needs.{needs}
+use Rattle.cells.proofs.laws.TableLaws.{getD-within}
+use Rattle.rows.specs.Lists.{all}
+use Rattle.vocabulary.specs.inner.Stored.{queryIn}
+use Rattle.questions.proofs.laws.Kept.{all-end, all-stop, all-turn}
+use Rattle.questions.specs.inner.ConditionWords.{joinCrosses}
+use Rattle.questions.proofs.laws.ConditionWordLaws.{line-next, line-end, line-crosses}
 use Rattle.questions.proofs.crossing.lines_cross.Statement.{statement}
 use Rattle.questions.proofs.crossing.lines_cross.Tie as tie
 

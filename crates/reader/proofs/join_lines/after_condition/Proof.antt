@@ -1,7 +1,7 @@
 -- `reader::join_lines::after_condition` meets its contract. Assumes nothing.
 use mathlib.Core.Path.{refl}
-use Rattle.reader.specs.State.{afterCondition, oneMore}
 use borrow.Author.Needs.{needs}
+use Rattle.reader.specs.inner.State.{afterCondition, oneMore}
 use Rattle.reader.proofs.join_lines.after_condition.Statement.{statement}
 use Rattle.reader.proofs.join_lines.after_condition.Tie as tie
 

@@ -1,6 +1,6 @@
 -- `reader::join_lines::after_join` meets its contract. Assumes nothing.
-use Rattle.reader.specs.State.{afterJoin}
 use borrow.Author.Needs.{needs}
+use Rattle.reader.specs.inner.State.{afterJoin}
 use Rattle.reader.proofs.join_lines.after_join.Statement.{statement}
 use Rattle.reader.proofs.join_lines.after_join.Tie as tie
 

@@ -1,8 +1,8 @@
 -- `reader::join_lines::closed_joins` meets its contract: a join past the room is not kept. Assumes nothing.
 use mathlib.Core.Path.{_≡_}
 use lib.ListN.{length}
-use Rattle.reader.specs.Steps.{set-past}
 use borrow.Author.Needs.{needs}
+use Rattle.reader.proofs.laws.Steps.{set-past}
 use Rattle.reader.proofs.join_lines.closed_joins.Statement.{statement}
 use Rattle.reader.proofs.join_lines.closed_joins.Tie as tie
 

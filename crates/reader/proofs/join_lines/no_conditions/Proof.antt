@@ -1,9 +1,9 @@
 -- `reader::join_lines::no_conditions` meets its contract. Assumes nothing.
 use mathlib.Core.Path.{ap}
 use lib.ListN.{replicate}
-use Rattle.cells.specs.Limits.{mostConditions}
-use Rattle.reader.specs.State.{noConditions}
 use borrow.Author.Needs.{needs}
+use Rattle.cells.specs.Limits.{mostConditions}
+use Rattle.reader.specs.inner.State.{noConditions}
 use Rattle.reader.proofs.join_lines.no_conditions.Statement.{statement}
 use Rattle.reader.proofs.join_lines.no_conditions.Tie as tie
 

@@ -1,6 +1,7 @@
 -- `reader::join_lines::no_joins` meets its contract. Assumes nothing.
 use mathlib.Core.Path.{refl}
-use Rattle.reader.specs.State.{noJoins, noJoin}
+use Rattle.vocabulary.specs.inner.Stored.{noJoin}
+use Rattle.reader.specs.inner.State.{noJoins}
 use Rattle.reader.proofs.join_lines.no_joins.Statement.{statement}
 use Rattle.reader.proofs.join_lines.no_joins.Tie as tie
 

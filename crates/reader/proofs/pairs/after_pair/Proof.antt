@@ -1,6 +1,6 @@
 -- `reader::pairs::after_pair` meets its contract. Assumes nothing.
-use Rattle.reader.specs.State.{afterPair}
 use borrow.Author.Needs.{needs}
+use Rattle.reader.specs.inner.State.{afterPair}
 use Rattle.reader.proofs.pairs.after_pair.Statement.{statement}
 use Rattle.reader.proofs.pairs.after_pair.Tie as tie
 

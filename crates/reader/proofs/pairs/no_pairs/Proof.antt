@@ -1,6 +1,6 @@
 -- `reader::pairs::no_pairs` meets its contract. Assumes nothing.
 use mathlib.Core.Path.{refl}
-use Rattle.reader.specs.State.{noPairs}
+use Rattle.reader.specs.inner.State.{noPairs}
 use Rattle.reader.proofs.pairs.no_pairs.Statement.{statement}
 use Rattle.reader.proofs.pairs.no_pairs.Tie as tie
 

@@ -1,8 +1,8 @@
 -- `reader::pairs::with_pair` meets its contract: a pair past the room is not kept. Assumes nothing.
 use mathlib.Core.Path.{_≡_}
 use lib.ListN.{length}
-use Rattle.reader.specs.Steps.{set-past}
 use borrow.Author.Needs.{needs}
+use Rattle.reader.proofs.laws.Steps.{set-past}
 use Rattle.reader.proofs.pairs.with_pair.Statement.{statement}
 use Rattle.reader.proofs.pairs.with_pair.Tie as tie
 

@@ -1,5 +1,5 @@
 -- `reader::place::follows` meets its contract: one law for each way out. Assumes nothing.
-use Rattle.reader.specs.SurveyLaws.{follows-there, follows-nowhere}
+use Rattle.reader.proofs.laws.SurveyLaws.{follows-there, follows-nowhere}
 use Rattle.reader.proofs.place.follows.Statement.{statement}
 use Rattle.reader.proofs.place.follows.Tie as tie
 

@@ -1,5 +1,5 @@
 -- `reader::place::opens` meets its contract: one law for each way out. Assumes nothing.
-use Rattle.reader.specs.SurveyLaws.{opens-there, opens-nowhere}
+use Rattle.reader.proofs.laws.SurveyLaws.{opens-there, opens-nowhere}
 use Rattle.reader.proofs.place.opens.Statement.{statement}
 use Rattle.reader.proofs.place.opens.Tie as tie
 

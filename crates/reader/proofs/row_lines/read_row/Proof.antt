@@ -7,17 +7,17 @@ use borrow.Author.Needs.{needs}
 use Rattle.cells.specs.Limits.{mostBytes}
 use Rattle.cells.proofs.Ints.{back}
 use Rattle.text.specs.Bytes.{tab, lineFeed}
-use Rattle.text.specs.ScanLines.{cell-found, found-fits}
-use Rattle.reader.specs.Row.{RowTo, row-start, row-front, row-turn, row-done}
+use Rattle.text.proofs.laws.ScanLines.{cell-found, found-fits}
+use Rattle.reader.proofs.laws.RowLaws.{RowTo, row-start, row-front, row-turn, row-done}
 use Rattle.reader.proofs.row_lines.read_row.Statement.{statement}
 use Rattle.reader.proofs.row_lines.read_row.Tie as tie
 
 abbrev Inv-loop : tie.InvT-loop
-Inv-loop text at run₀ out tab o₀ i₀ run o i =
-    (length text ≤ mostBytes) × (length run ≡ length run₀) × RowTo text at run₀ out i run o
+Inv-loop text at cells₀ out tab o₀ i₀ cells o i =
+    (length text ≤ mostBytes) × (length cells ≡ length cells₀) × RowTo text at cells₀ out i cells o
 
 abbrev μ-loop : tie.MeasureT-loop
-μ-loop text at run₀ out tab o₀ i₀ run o i = length text - i
+μ-loop text at cells₀ out tab o₀ i₀ cells o i = length text - i
 
 add-tab : tie.Need-add-tab Inv-loop μ-loop
 add-tab c = search needs

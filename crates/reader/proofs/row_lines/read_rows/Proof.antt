@@ -5,20 +5,22 @@ use Prim.Native.Nat.{_≤_, _-_}
 use lib.ListN.{length}
 use borrow.Author.Needs.{needs}
 use Rattle.cells.specs.Limits.{mostBytes}
-use Rattle.load.specs.Run.{LaidTo, laid-line, laid-same}
-use Rattle.reader.specs.State.{withCounts}
-use Rattle.reader.specs.Row.{row-found, row-bad}
-use Rattle.reader.specs.RowLines.{RowsTo, rows-none, rows-more, rows-put}
+use Rattle.reader.specs.inner.CellBuffer.{LaidTo}
+use Rattle.reader.proofs.laws.CellBufferLaws.{laid-line, laid-same}
+use Rattle.reader.specs.inner.State.{withTableCounts}
+use Rattle.reader.proofs.laws.RowLaws.{row-found, row-bad}
+use Rattle.reader.specs.inner.RowLines.{RowsTo}
+use Rattle.reader.proofs.laws.RowLinesLaws.{rows-none, rows-more, rows-put}
 use Rattle.reader.proofs.row_lines.read_rows.Statement.{statement}
 use Rattle.reader.proofs.row_lines.read_rows.Tie as tie
 
 abbrev Inv-loop : tie.InvT-loop
-Inv-loop text from before run₀ first columns rows₀ cells₀ even₀ out₀ at₀ run rows cells even out at =
-    (length text ≤ mostBytes) × (length run ≡ length run₀) × (out ≤ at) × RowsTo text 1 from before at (withCounts before rows cells even)
-    × LaidTo text at run out
+Inv-loop text from before cells₀ first columns rows₀ written₀ even₀ out₀ at₀ cells rows written even out at =
+    (length text ≤ mostBytes) × (length cells ≡ length cells₀) × (out ≤ at) × RowsTo text 1 from before at (withTableCounts before rows written even)
+    × LaidTo text at cells out
 
 abbrev μ-loop : tie.MeasureT-loop
-μ-loop text from before run₀ first columns rows₀ cells₀ even₀ out₀ at₀ run rows cells even out at = length text - at
+μ-loop text from before cells₀ first columns rows₀ written₀ even₀ out₀ at₀ cells rows written even out at = length text - at
 
 loop-holds : tie.Need-loop-holds Inv-loop μ-loop
 loop-holds c = let p = c .before .pre in (p .1, refl, p .3, rows-none _ _ _ _ (p .0) (p .2), p .4)

@@ -1,6 +1,6 @@
 -- `reader::stored::stored` meets its contract. Assumes nothing.
-use Rattle.reader.specs.Query.{storedOf}
 use borrow.Author.Needs.{needs}
+use Rattle.reader.specs.inner.Query.{storedOf}
 use Rattle.reader.proofs.stored.stored.Statement.{statement}
 use Rattle.reader.proofs.stored.stored.Tie as tie
 

@@ -1,6 +1,6 @@
 -- `reader::stored::tables_fit` meets its contract: one law for each test. Assumes nothing.
-use Rattle.reader.specs.Query.{fit-none, fit-many, fit-long, fit-full, fit-rest}
 use borrow.Author.Needs.{needs}
+use Rattle.reader.proofs.laws.QueryLaws.{fit-none, fit-many, fit-long, fit-full, fit-rest}
 use Rattle.reader.proofs.stored.tables_fit.Statement.{statement}
 use Rattle.reader.proofs.stored.tables_fit.Tie as tie
 

@@ -1,12 +1,11 @@
--- `reader::survey::behind_line` meets its contract: the run goes on behind the line's cells. Assumes nothing.
-use mathlib.Core.Path.{_≡_}
+-- `reader::survey::behind_line` meets its contract: the cell buffer goes on behind the line's cells. Assumes nothing.
 use Prim.Native.Nat.{_-_}
 use native.Mathlib.Omega.{arith}
 use lib.ListN.{drop}
-use Rattle.load.specs.Cells.{part-short}
-use Rattle.load.specs.Run.{laid-line}
-use Rattle.reader.specs.RowLines.{rows-none, rows-in}
 use borrow.Author.Needs.{needs}
+use Rattle.reader.proofs.laws.LineCellsLaws.{part-short}
+use Rattle.reader.proofs.laws.CellBufferLaws.{laid-line}
+use Rattle.reader.proofs.laws.RowLinesLaws.{rows-none, rows-in}
 use Rattle.reader.proofs.survey.behind_line.Statement.{statement}
 use Rattle.reader.proofs.survey.behind_line.Tie as tie
 

@@ -1,5 +1,5 @@
 -- `reader::survey::read_lines` meets its contract: the reading of what is left, after the lines before it, is the reading of the text, and
--- the run begins with the cells of the lines before it. Assumes nothing.
+-- the cell buffer begins with the cells of the lines before it. Assumes nothing.
 use mathlib.Core.Path.{_≡_, refl, ap, sym, _∙_}
 use native.Mathlib.Omega.{arith}
 use Prim.Native.Nat.{_+_, _≤_, _-_}
@@ -7,11 +7,12 @@ use lib.ListN.{length}
 use borrow.Author.Needs.{needs}
 use Rattle.cells.specs.Limits.{mostBytes, mostConditions}
 use Rattle.text.specs.Bytes.{lineFeed}
-use Rattle.text.specs.Parts.{linesFrom}
-use Rattle.load.specs.Run.{LaidTo, laid-start, laid-whole}
-use Rattle.reader.specs.Survey.{nextIn, readingOf, conditionsTold, afterRead, readFrom, surveyOf, Bounded}
-use Rattle.reader.specs.SurveyLaws.{step-refused, line-told, slot-taken, slot-past, conditions-room, told-room, either, read-nowhere, start-parts, survey-start, from-end, from-open, from-refused, from-step, bounded-start, bounded-next}
-use Rattle.reader.specs.RowLines.{reads-rows, survey-passed, survey-refused}
+use Rattle.text.specs.inner.Parts.{linesFrom}
+use Rattle.reader.specs.inner.CellBuffer.{LaidTo}
+use Rattle.reader.proofs.laws.CellBufferLaws.{laid-start, laid-whole}
+use Rattle.reader.specs.inner.Survey.{nextIn, readingOf, conditionsTold, afterRead, readFrom, surveyOf}
+use Rattle.reader.proofs.laws.SurveyLaws.{Bounded, step-refused, line-told, slot-taken, slot-past, conditions-room, told-room, either, read-nowhere, start-parts, survey-start, from-end, from-open, from-refused, from-step, bounded-start, bounded-next}
+use Rattle.reader.proofs.laws.RowLinesLaws.{reads-rows, survey-passed, survey-refused}
 use Rattle.reader.proofs.survey.read_lines.Statement.{statement}
 use Rattle.reader.proofs.survey.read_lines.Tie as tie
 
@@ -61,7 +62,7 @@ same-length c = c .before .before .before .before .loop .inv .3
 returns : tie.Need-returns Inv-loop μ-loop
 unfolding lineFeed
 returns c =
-    let r = c .refused .ensures in
+    let r = c .refused .ensures .0 in
     let p = c .before .before in
     let d = p .before .before in
     survey-refused _ _ _ r (step-refused _ r
@@ -97,7 +98,7 @@ same-length-2 c = c .before .before .before .before .before .before .before .bef
 returns-2 : tie.Need-returns-2 Inv-loop μ-loop
 unfolding lineFeed
 returns-2 c =
-    let r = c .refused2 .ensures in
+    let r = c .refused2 .ensures .0 in
     let n = c .before in
     let a = n .before .before in
     let l = a .before in

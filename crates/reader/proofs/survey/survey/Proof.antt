@@ -1,8 +1,8 @@
 -- `reader::survey::survey` meets its contract: a text that is too long is refused. Assumes nothing.
 use mathlib.Core.Path.{_∙_}
-use Rattle.reader.specs.SurveyLaws.{step-refused, survey-long}
-use Rattle.reader.specs.RowLines.{survey-refused}
 use borrow.Author.Needs.{needs}
+use Rattle.reader.proofs.laws.SurveyLaws.{step-refused, survey-long}
+use Rattle.reader.proofs.laws.RowLinesLaws.{survey-refused}
 use Rattle.reader.proofs.survey.survey.Statement.{statement}
 use Rattle.reader.proofs.survey.survey.Tie as tie
 
@@ -11,7 +11,7 @@ refused-requires c κs = search needs
 
 returns : tie.Need-returns
 returns c =
-    let r = c .refused .ensures in
+    let r = c .refused .ensures .0 in
     survey-refused _ _ _ r (step-refused _ r ∙ survey-long _ (c .before .if1 .taken))
 
 read-lines-requires : tie.Need-read-lines-requires

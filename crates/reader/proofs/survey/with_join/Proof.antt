@@ -1,7 +1,7 @@
 -- `reader::survey::with_join` meets its contract: a line of the joins part says it. Assumes nothing.
 use mathlib.Core.Path.{ap, sym, _∙_}
-use Rattle.reader.specs.Survey.{joinsTold}
 use borrow.Author.Needs.{needs}
+use Rattle.reader.specs.inner.Survey.{joinsTold}
 use Rattle.reader.proofs.survey.with_join.Statement.{statement}
 use Rattle.reader.proofs.survey.with_join.Tie as tie
 

@@ -1,7 +1,7 @@
 -- `reader::survey::with_pair` meets its contract: a line of the order part says it. Assumes nothing.
 use mathlib.Core.Path.{ap, sym, _∙_}
-use Rattle.reader.specs.Survey.{pairsTold}
 use borrow.Author.Needs.{needs}
+use Rattle.reader.specs.inner.Survey.{pairsTold}
 use Rattle.reader.proofs.survey.with_pair.Statement.{statement}
 use Rattle.reader.proofs.survey.with_pair.Tie as tie
 

@@ -1,7 +1,7 @@
 -- `reader::survey::with_table` meets its contract: a line of the tables part says it. Assumes nothing.
 use mathlib.Core.Path.{ap, sym, _∙_}
-use Rattle.reader.specs.Survey.{tablesTold}
 use borrow.Author.Needs.{needs}
+use Rattle.reader.specs.inner.Survey.{tablesTold}
 use Rattle.reader.proofs.survey.with_table.Statement.{statement}
 use Rattle.reader.proofs.survey.with_table.Tie as tie
 

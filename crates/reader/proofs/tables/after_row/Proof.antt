@@ -1,6 +1,6 @@
 -- `reader::tables::after_row` meets its contract. Assumes nothing.
-use Rattle.reader.specs.State.{afterRow}
 use borrow.Author.Needs.{needs}
+use Rattle.reader.specs.inner.State.{afterRow}
 use Rattle.reader.proofs.tables.after_row.Statement.{statement}
 use Rattle.reader.proofs.tables.after_row.Tie as tie
 

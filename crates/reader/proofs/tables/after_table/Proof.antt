@@ -1,6 +1,6 @@
 -- `reader::tables::after_table` meets its contract. Assumes nothing.
-use Rattle.reader.specs.State.{afterTable}
 use borrow.Author.Needs.{needs}
+use Rattle.reader.specs.inner.State.{afterTable}
 use Rattle.reader.proofs.tables.after_table.Statement.{statement}
 use Rattle.reader.proofs.tables.after_table.Tie as tie
 

@@ -1,6 +1,6 @@
 -- `reader::tables::cells_after` meets its contract: one law for each test. Assumes nothing.
-use Rattle.reader.specs.Steps.{cells-long, cells-full, cells-more}
 use borrow.Author.Needs.{needs}
+use Rattle.reader.proofs.laws.Steps.{cells-long, cells-full, cells-more}
 use Rattle.reader.proofs.tables.cells_after.Statement.{statement}
 use Rattle.reader.proofs.tables.cells_after.Tie as tie
 

@@ -1,9 +1,9 @@
 -- `reader::tables::closed_rows` meets its contract: rows past the room are not kept. Assumes nothing.
 use mathlib.Core.Path.{_≡_}
 use lib.ListN.{length}
-use Rattle.reader.specs.State.{closedRows}
-use Rattle.reader.specs.Steps.{closed-past}
 use borrow.Author.Needs.{needs}
+use Rattle.reader.specs.inner.State.{closedRows}
+use Rattle.reader.proofs.laws.Steps.{closed-past}
 use Rattle.reader.proofs.tables.closed_rows.Statement.{statement}
 use Rattle.reader.proofs.tables.closed_rows.Tie as tie
 

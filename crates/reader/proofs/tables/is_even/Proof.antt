@@ -1,5 +1,5 @@
 -- `reader::tables::is_even` meets its contract. Assumes nothing.
-use Rattle.reader.specs.Steps.{even-same, even-not}
+use Rattle.reader.proofs.laws.Steps.{even-same, even-not}
 use Rattle.reader.proofs.tables.is_even.Statement.{statement}
 use Rattle.reader.proofs.tables.is_even.Tie as tie
 

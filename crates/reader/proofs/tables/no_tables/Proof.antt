@@ -1,6 +1,6 @@
 -- `reader::tables::no_tables` meets its contract. Assumes nothing.
 use mathlib.Core.Path.{refl}
-use Rattle.reader.specs.State.{noTables}
+use Rattle.reader.specs.inner.State.{noTables}
 use Rattle.reader.proofs.tables.no_tables.Statement.{statement}
 use Rattle.reader.proofs.tables.no_tables.Tie as tie
 

@@ -1,9 +1,9 @@
 -- `reader::tables::opened_table` meets its contract: a table past the room is not kept. Assumes nothing.
 use mathlib.Core.Path.{_≡_, refl}
 use lib.ListN.{length}
-use Rattle.reader.specs.State.{openedTable}
-use Rattle.reader.specs.Steps.{opened-past}
 use borrow.Author.Needs.{needs}
+use Rattle.reader.specs.inner.State.{openedTable}
+use Rattle.reader.proofs.laws.Steps.{opened-past}
 use Rattle.reader.proofs.tables.opened_table.Statement.{statement}
 use Rattle.reader.proofs.tables.opened_table.Tie as tie
 

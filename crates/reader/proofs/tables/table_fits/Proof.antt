@@ -1,5 +1,5 @@
 -- `reader::tables::table_fits` meets its contract: one law for each test. Assumes nothing.
-use Rattle.reader.specs.Steps.{fits-rows, fits-none, fits-many, fits-still}
+use Rattle.reader.proofs.laws.Steps.{fits-rows, fits-none, fits-many, fits-still}
 use Rattle.reader.proofs.tables.table_fits.Statement.{statement}
 use Rattle.reader.proofs.tables.table_fits.Tie as tie
 

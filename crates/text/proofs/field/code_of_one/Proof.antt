@@ -1,5 +1,5 @@
 -- `text::field::code_of_one` meets its contract: one law for each byte. Assumes nothing.
-use Rattle.text.specs.Fields.{one-less, one-equal, one-greater, one-other}
+use Rattle.text.proofs.laws.FieldsLaws.{one-less, one-equal, one-greater, one-other}
 use Rattle.text.proofs.field.code_of_one.Statement.{statement}
 use Rattle.text.proofs.field.code_of_one.Tie as tie
 

@@ -1,5 +1,5 @@
 -- `text::field::code_of_two` meets its contract: one law for each two bytes. Assumes nothing.
-use Rattle.text.specs.Fields.{two-at-most, two-differ, two-less-other, two-other, two-greater-other, two-at-least}
+use Rattle.text.proofs.laws.FieldsLaws.{two-at-most, two-differ, two-less-other, two-other, two-greater-other, two-at-least}
 use Rattle.text.proofs.field.code_of_two.Statement.{statement}
 use Rattle.text.proofs.field.code_of_two.Tie as tie
 

@@ -1,12 +1,11 @@
 -- `text::field::constant_at` meets its contract: the field up to the next tab, read as a whole. Assumes nothing.
 use mathlib.Core.Path.{ap, sym, _∙_}
-use Rattle.text.specs.Fields.{field-past, field-some, field-bad}
-use Rattle.text.specs.Numbers.{ifMade}
-use Rattle.text.specs.Numbers.{constant}
-use Rattle.text.specs.Bytes.{tab}
-use Rattle.cells.proofs.Ints.{back}
-use Rattle.text.specs.Ranges.{constant-fits}
 use borrow.Author.Needs.{needs}
+use Rattle.cells.proofs.Ints.{back}
+use Rattle.text.proofs.laws.FieldsLaws.{field-past, field-some, field-bad}
+use Rattle.text.specs.Numbers.{ifMade, constant}
+use Rattle.text.specs.Bytes.{tab}
+use Rattle.text.proofs.laws.RangesLaws.{constant-fits}
 use Rattle.text.proofs.field.constant_at.Statement.{statement}
 use Rattle.text.proofs.field.constant_at.Tie as tie
 

@@ -1,7 +1,7 @@
 -- `text::field::kind_at` meets its contract: a field of one byte, I or L. Assumes nothing.
-use Rattle.text.specs.Fields.{kind-past, kind-long, kind-inner, kind-left, kind-other}
-use Rattle.text.specs.Bytes.{tab}
 use borrow.Author.Needs.{needs}
+use Rattle.text.proofs.laws.FieldsLaws.{kind-past, kind-long, kind-inner, kind-left, kind-other}
+use Rattle.text.specs.Bytes.{tab}
 use Rattle.text.proofs.field.kind_at.Statement.{statement}
 use Rattle.text.proofs.field.kind_at.Tie as tie
 

@@ -1,11 +1,11 @@
 -- `text::field::number_at` meets its contract: the field up to the next tab, read as a whole. Assumes nothing.
 use mathlib.Core.Path.{ap, sym, _∙_}
-use Rattle.text.specs.Fields.{field-past, field-some, field-bad}
-use Rattle.text.specs.Answers.{smallIn}
+use borrow.Author.Needs.{needs}
+use Rattle.text.proofs.laws.FieldsLaws.{field-past, field-some, field-bad}
+use Rattle.text.specs.inner.Answers.{smallIn}
 use Rattle.text.specs.Numbers.{small}
 use Rattle.text.specs.Lines.{numberField}
 use Rattle.text.specs.Bytes.{tab}
-use borrow.Author.Needs.{needs}
 use Rattle.text.proofs.field.number_at.Statement.{statement}
 use Rattle.text.proofs.field.number_at.Tie as tie
 

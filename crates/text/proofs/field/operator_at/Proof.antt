@@ -1,10 +1,11 @@
 -- `text::field::operator_at` meets its contract: the field up to the next tab, read as a whole. Assumes nothing.
 use mathlib.Core.Path.{ap, sym, _∙_}
-use Rattle.text.specs.Fields.{field-past, field-some, field-bad, operatorRead}
-use Rattle.text.specs.FieldAnswers.{codeIn}
+use borrow.Author.Needs.{needs}
+use Rattle.text.proofs.laws.FieldsLaws.{field-past, field-some, field-bad}
+use Rattle.text.specs.inner.Fields.{operatorRead}
+use Rattle.text.specs.inner.FieldAnswers.{codeIn}
 use Rattle.text.specs.Lines.{operatorField}
 use Rattle.text.specs.Bytes.{tab}
-use borrow.Author.Needs.{needs}
 use Rattle.text.proofs.field.operator_at.Statement.{statement}
 use Rattle.text.proofs.field.operator_at.Tie as tie
 

@@ -1,7 +1,7 @@
 -- `text::field::operator_code` meets its contract: operators have one byte or two. Assumes nothing.
 use mathlib.Core.Path.{_∙_}
-use Rattle.text.specs.Fields.{operator-one, operator-two, operator-other}
 use borrow.Author.Needs.{needs}
+use Rattle.text.proofs.laws.FieldsLaws.{operator-one, operator-two, operator-other}
 use Rattle.text.proofs.field.operator_code.Statement.{statement}
 use Rattle.text.proofs.field.operator_code.Tie as tie
 

@@ -1,8 +1,8 @@
 -- `text::field::pair_at` meets its contract: one number field and then another. Assumes nothing.
 use mathlib.Core.Path.{ap, sym, _∙_}
-use Rattle.text.specs.FieldAnswers.{numberAt}
-use Rattle.text.specs.Fields.{pair-first, pair-second, pair-both}
 use borrow.Author.Needs.{needs}
+use Rattle.text.specs.inner.FieldAnswers.{numberAt}
+use Rattle.text.proofs.laws.FieldsLaws.{pair-first, pair-second, pair-both}
 use Rattle.text.proofs.field.pair_at.Statement.{statement}
 use Rattle.text.proofs.field.pair_at.Tie as tie
 

@@ -1,8 +1,8 @@
 -- `text::line::column_line` meets its contract: a column, an operator, a column of a table, and then the line's end. Assumes nothing.
 use mathlib.Core.Path.{ap, sym, _∙_}
-use Rattle.text.specs.FieldAnswers.{pairAt, operatorAt}
-use Rattle.text.specs.Forms.{column-none, column-no-operator, column-no-side, column-end, end-here, end-more}
 use borrow.Author.Needs.{needs}
+use Rattle.text.specs.inner.FieldAnswers.{pairAt, operatorAt}
+use Rattle.text.proofs.laws.FormsLaws.{column-none, column-no-operator, column-no-side, column-end, end-here, end-more}
 use Rattle.text.proofs.line.column_line.Statement.{statement}
 use Rattle.text.proofs.line.column_line.Tie as tie
 

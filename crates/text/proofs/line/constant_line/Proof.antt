@@ -1,9 +1,9 @@
 -- `text::line::constant_line` meets its contract: a column, an operator, a constant, and then the line's end. Assumes nothing.
 use mathlib.Core.Path.{ap, sym, _∙_}
-use Rattle.text.specs.FieldAnswers.{pairAt, operatorAt, constantAt}
-use Rattle.text.specs.Forms.{field-fits, constant-none, constant-no-operator, constant-no-side, constant-end, end-here, end-more}
-use Rattle.cells.proofs.Ints.{back}
 use borrow.Author.Needs.{needs}
+use Rattle.cells.proofs.Ints.{back}
+use Rattle.text.specs.inner.FieldAnswers.{pairAt, operatorAt, constantAt}
+use Rattle.text.proofs.laws.FormsLaws.{field-fits, constant-none, constant-no-operator, constant-no-side, constant-end, end-here, end-more}
 use Rattle.text.proofs.line.constant_line.Statement.{statement}
 use Rattle.text.proofs.line.constant_line.Tie as tie
 

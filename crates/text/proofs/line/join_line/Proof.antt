@@ -1,8 +1,8 @@
 -- `text::line::join_line` meets its contract: a kind, two nodes, and then the line's end. Assumes nothing.
 use mathlib.Core.Path.{ap, sym, _∙_}
-use Rattle.text.specs.FieldAnswers.{kindAt, pairAt}
-use Rattle.text.specs.Forms.{join-none, join-no-sides, join-more, join-end, end-here, end-more}
 use borrow.Author.Needs.{needs}
+use Rattle.text.specs.inner.FieldAnswers.{kindAt, pairAt}
+use Rattle.text.proofs.laws.FormsLaws.{join-none, join-no-sides, join-more, join-end, end-here, end-more}
 use Rattle.text.proofs.line.join_line.Statement.{statement}
 use Rattle.text.proofs.line.join_line.Tie as tie
 

@@ -1,8 +1,8 @@
 -- `text::line::order_line` meets its contract: two nodes, and then the line's end. Assumes nothing.
 use mathlib.Core.Path.{ap, sym, _∙_}
-use Rattle.text.specs.FieldAnswers.{pairAt}
-use Rattle.text.specs.Forms.{order-none, order-end, end-here, end-more}
 use borrow.Author.Needs.{needs}
+use Rattle.text.specs.inner.FieldAnswers.{pairAt}
+use Rattle.text.proofs.laws.FormsLaws.{order-none, order-end, end-here, end-more}
 use Rattle.text.proofs.line.order_line.Statement.{statement}
 use Rattle.text.proofs.line.order_line.Tie as tie
 

@@ -3,12 +3,13 @@ use mathlib.Core.Path.{_≡_, ap, sym, _∙_}
 use native.Mathlib.Omega.{arith}
 use Prim.Native.Nat.{_+_, _≤_, _-_}
 use lib.ListN.{length}
+use borrow.Author.Needs.{needs}
 use Rattle.text.specs.Bytes.{tab}
 use Rattle.text.specs.Numbers.{ifMade, cell}
 use Rattle.text.specs.Lines.{tablesPart, readAll}
-use Rattle.text.specs.Parts.{fieldsFrom}
-use Rattle.text.specs.Forms.{formRead, rowForm, rowFrom, row-none, row-start, row-bad, row-more, row-end}
-use borrow.Author.Needs.{needs}
+use Rattle.text.specs.inner.Parts.{fieldsFrom}
+use Rattle.text.specs.inner.Forms.{formRead, rowForm}
+use Rattle.text.proofs.laws.FormsLaws.{rowFrom, row-none, row-start, row-bad, row-more, row-end}
 use Rattle.text.proofs.line.row_line.Statement.{statement}
 use Rattle.text.proofs.line.row_line.Tie as tie
 

@@ -1,8 +1,8 @@
 -- `text::line::table_line` meets its contract: the count, and then the line's end. Assumes nothing.
 use mathlib.Core.Path.{ap, sym, _∙_}
-use Rattle.text.specs.FieldAnswers.{numberAt}
-use Rattle.text.specs.Forms.{table-none, table-end, end-here, end-more}
 use borrow.Author.Needs.{needs}
+use Rattle.text.specs.inner.FieldAnswers.{numberAt}
+use Rattle.text.proofs.laws.FormsLaws.{table-none, table-end, end-here, end-more}
 use Rattle.text.proofs.line.table_line.Statement.{statement}
 use Rattle.text.proofs.line.table_line.Tie as tie
 

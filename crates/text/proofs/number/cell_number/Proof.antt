@@ -1,9 +1,9 @@
 -- `text::number::cell_number` meets its contract: a minus sign alone is blank. Assumes nothing.
 use mathlib.Core.Path.{_∙_}
-use Rattle.text.specs.Numbers.{ifMade}
-use Rattle.cells.specs.Cell.{blankCell}
-use Rattle.text.specs.Ranges.{cell-blank, cell-long, cell-other}
 use borrow.Author.Needs.{needs}
+use Rattle.cells.specs.Cell.{blankCell}
+use Rattle.text.specs.Numbers.{ifMade}
+use Rattle.text.proofs.laws.RangesLaws.{cell-blank, cell-long, cell-other}
 use Rattle.text.proofs.number.cell_number.Statement.{statement}
 use Rattle.text.proofs.number.cell_number.Tie as tie
 

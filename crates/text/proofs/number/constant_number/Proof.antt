@@ -1,8 +1,8 @@
 -- `text::number::constant_number` meets its contract: by the first byte, a minus sign or not. Assumes nothing.
 use mathlib.Core.Path.{_∙_}
-use Rattle.text.specs.Numbers.{ifMade}
-use Rattle.text.specs.Ranges.{constant-empty, constant-minus, constant-plain}
 use borrow.Author.Needs.{needs}
+use Rattle.text.specs.Numbers.{ifMade}
+use Rattle.text.proofs.laws.RangesLaws.{constant-empty, constant-minus, constant-plain}
 use Rattle.text.proofs.number.constant_number.Statement.{statement}
 use Rattle.text.proofs.number.constant_number.Tie as tie
 

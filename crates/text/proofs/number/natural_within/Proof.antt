@@ -4,8 +4,8 @@ use Prim.Native.Nat.{_≤_, _-_}
 use native.Mathlib.Omega.{arith}
 use borrow.Author.Needs.{needs}
 use lib.ListN.{length, drop}
-use Rattle.text.specs.Digits.{numberFrom, digitsFrom}
-use Rattle.text.specs.Digits.{number-same, number-none, number-zero, number-lead, number-digits, digits-end, digits-low, digits-high, digits-over, digits-more}
+use Rattle.text.proofs.laws.DigitsLaws.{numberFrom, number-same, number-none, number-zero, number-lead, number-digits, digits-end, digits-low, digits-high, digits-over, digits-more}
+use Rattle.text.specs.inner.Digits.{digitsFrom}
 use Rattle.text.proofs.number.natural_within.Statement.{statement}
 use Rattle.text.proofs.number.natural_within.Tie as tie
 

@@ -1,11 +1,11 @@
 -- `text::number::positive_number` meets its contract: the cell of the magnitude, if there is one. Assumes nothing.
 use mathlib.Core.Path.{ap, sym, _∙_}
 use native.Mathlib.Omega.{arith}
-use Rattle.text.specs.Answers.{naturalIn}
-use Rattle.text.specs.Numbers.{ifMade}
-use Rattle.text.specs.Ranges.{positive-found, positive-none}
-use Rattle.text.specs.Digits.{atMost-bound}
 use borrow.Author.Needs.{needs}
+use Rattle.text.specs.inner.Answers.{naturalIn}
+use Rattle.text.specs.Numbers.{ifMade}
+use Rattle.text.proofs.laws.RangesLaws.{positive-found, positive-none}
+use Rattle.text.proofs.laws.DigitsLaws.{atMost-bound}
 use Rattle.text.proofs.number.positive_number.Statement.{statement}
 use Rattle.text.proofs.number.positive_number.Tie as tie
 

@@ -1,9 +1,9 @@
 -- `text::number::small_number` meets its contract: four digits are at most 9,999. Assumes nothing.
 use mathlib.Core.Path.{ap, sym, _∙_}
 use native.Mathlib.Omega.{arith}
-use Rattle.text.specs.Answers.{naturalIn}
-use Rattle.text.specs.Digits.{small-long, small-short, atMost-bound}
 use borrow.Author.Needs.{needs}
+use Rattle.text.specs.inner.Answers.{naturalIn}
+use Rattle.text.proofs.laws.DigitsLaws.{small-long, small-short, atMost-bound}
 use Rattle.text.proofs.number.small_number.Statement.{statement}
 use Rattle.text.proofs.number.small_number.Tie as tie
 

@@ -3,8 +3,8 @@ use mathlib.Core.Path.{_≡_, refl, sym, _∙_}
 use Prim.Native.Nat.{_+_, _≤_, _-_}
 use native.Mathlib.Omega.{arith}
 use lib.ListN.{length, drop}
-use Rattle.text.specs.Parts.{until}
-use Rattle.text.specs.Parts.{until-here, until-next, until-end}
+use Rattle.text.specs.inner.Parts.{until}
+use Rattle.text.proofs.laws.PartsLaws.{until-here, until-next, until-end}
 use Rattle.text.proofs.part.part_end.Statement.{statement}
 use Rattle.text.proofs.part.part_end.Tie as tie
 

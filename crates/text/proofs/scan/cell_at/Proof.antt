@@ -1,7 +1,7 @@
 -- `text::scan::cell_at` meets its contract: by the first byte, 0, a minus sign, or a digit before digits. Assumes nothing.
-use Rattle.cells.proofs.Ints.{small-pos}
-use Rattle.text.specs.ScanLaws.{found-zero, found-digits}
 use borrow.Author.Needs.{needs}
+use Rattle.cells.proofs.Ints.{small-pos}
+use Rattle.text.proofs.laws.ScanLaws.{found-zero, found-digits}
 use Rattle.text.proofs.scan.cell_at.Statement.{statement}
 use Rattle.text.proofs.scan.cell_at.Tie as tie
 
@@ -21,7 +21,7 @@ minus-at-requires : tie.Need-minus-at-requires
 minus-at-requires c κs = search needs
 
 returns-3 : tie.Need-returns-3
-returns-3 c = search needs
+returns-3 c = c .minus-at .ensures .0
 
 returns-4 : tie.Need-returns-4
 returns-4 c = search needs

@@ -1,11 +1,12 @@
 -- `text::scan::minus_at` meets its contract: a minus sign alone is blank, and before digits it makes their number negative. Assumes nothing.
+use native.Mathlib.Omega.{arith}
 use mir.Syntax.{w32}
 use mir.ValLaws.{toZ-ofZ}
 use lib.IntN.{pos, _-ℤ_}
+use borrow.Author.Needs.{needs}
 use Rattle.cells.specs.Cell.{blankCell}
 use Rattle.cells.proofs.Ints.{small-pos, neg-fits, neg-is}
-use Rattle.text.specs.ScanLaws.{found-blank, found-minus}
-use borrow.Author.Needs.{needs}
+use Rattle.text.proofs.laws.ScanLaws.{found-blank, found-minus}
 use Rattle.text.proofs.scan.minus_at.Statement.{statement}
 use Rattle.text.proofs.scan.minus_at.Tie as tie
 
@@ -14,18 +15,18 @@ add-next c = search needs
 
 returns : tie.Need-returns
 unfolding blankCell
-returns c = let s = c .before .before in found-blank _ _ (s .pre .0) (s .pre .1)
+returns c = let s = c .before .before in (found-blank _ _ (s .pre .0) (s .pre .1), λ e h k. absurd (omega (arith, h, c .if1 .taken)))
 
 shared-slice-read-d : tie.Need-shared-slice-read-d
 shared-slice-read-d c = search needs
 
 returns-2 : tie.Need-returns-2
 unfolding blankCell
-returns-2 c = let s = c .before .before .before .before in found-blank _ _ (s .pre .0) (s .pre .1)
+returns-2 c = let s = c .before .before .before .before in (found-blank _ _ (s .pre .0) (s .pre .1), λ e h k. absurd (omega (arith, k, c .if2 .taken)))
 
 returns-3 : tie.Need-returns-3
 unfolding blankCell
-returns-3 c = let s = c .before .before .before .before .before in found-blank _ _ (s .pre .0) (s .pre .1)
+returns-3 c = let s = c .before .before .before .before .before in (found-blank _ _ (s .pre .0) (s .pre .1), λ e h k. c .if3 .taken)
 
 add-read-on : tie.Need-add-read-on
 add-read-on c = search needs
@@ -50,9 +51,11 @@ returns-4 c =
     let b = c .before .before in
     let s = b .before .before .before .before .before in
     let d = c .before .read-on .ensures in
-    let n = c .before .read-on .result .value in
-    rw (small-pos n (d .3), toZ-ofZ w32 (pos 0 -ℤ pos n) (neg-fits n (d .3)), neg-is n)
-    (found-minus _ _ (s .pre .0) _ _ (s .pre .1) (b .before .if2 .left) (b .if3 .left) d)
+    let n = c .before .read-on .result .value in (
+      rw (small-pos n (d .3), toZ-ofZ w32 (pos 0 -ℤ pos n) (neg-fits n (d .3)), neg-is n)
+          (found-minus _ _ (s .pre .0) _ _ (s .pre .1) (b .before .if2 .left) (b .if3 .left) d),
+      λ e h k. absurd (omega (arith, e, d .0)),
+    )
 
 pub minus-at-spec : {M : Type 1} → statement M
 minus-at-spec =

@@ -2,8 +2,8 @@
 use Prim.Native.Nat.{_-_}
 use lib.ListN.{length}
 use borrow.Author.Needs.{needs}
-use Rattle.text.specs.Scan.{DigitsStand}
-use Rattle.text.specs.ScanLaws.{digits-start, digits-turn}
+use Rattle.text.specs.inner.Scan.{DigitsStand}
+use Rattle.text.proofs.laws.ScanLaws.{digits-start, digits-turn}
 use Rattle.text.proofs.scan.read_on.Statement.{statement}
 use Rattle.text.proofs.scan.read_on.Tie as tie
 

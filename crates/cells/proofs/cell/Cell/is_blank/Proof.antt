@@ -1,8 +1,8 @@
 -- `cells::cell::Cell::is_blank` meets its contract: the test of the bits is the test of the number. Assumes nothing.
 use lib.IntN.{negsuc}
+use borrow.Author.Needs.{needs}
 use Rattle.cells.specs.Cell.{isBlank, blankCell}
 use Rattle.cells.proofs.Ints.{eq-bits}
-use borrow.Author.Needs.{needs}
 use Rattle.cells.proofs.cell.Cell.is_blank.Statement.{statement}
 use Rattle.cells.proofs.cell.Cell.is_blank.Tie as tie
 

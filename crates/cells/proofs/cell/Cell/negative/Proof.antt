@@ -1,11 +1,12 @@
--- `cells::cell::Cell::negative` meets its contract: within the range by `negative-within`, below it by `negative-outside`; the difference fits. Assumes nothing.
+-- `cells::cell::Cell::negative` meets its contract: within the range by `negative-within`, below it by `negative-outside`; the difference
+-- fits. Assumes nothing.
 use mathlib.Core.Path.{sym}
 use mir.Syntax.{w32}
 use mir.ValLaws.{toZ-ofZ}
 use lib.IntN.{pos, _-ℤ_}
-use Rattle.cells.specs.CellLaws.{negative-within, negative-outside}
-use Rattle.cells.proofs.Ints.{small-pos, neg-fits, neg-is}
 use borrow.Author.Needs.{needs}
+use Rattle.cells.proofs.laws.CellLaws.{negative-within, negative-outside}
+use Rattle.cells.proofs.Ints.{small-pos, neg-fits, neg-is}
 use Rattle.cells.proofs.cell.Cell.negative.Statement.{statement}
 use Rattle.cells.proofs.cell.Cell.negative.Tie as tie
 

@@ -1,8 +1,8 @@
 -- `cells::cell::Cell::positive` meets its contract: within the range by `positive-within`, above it by `positive-outside`. Assumes nothing.
 use mathlib.Core.Path.{sym}
-use Rattle.cells.specs.CellLaws.{positive-within, positive-outside}
-use Rattle.cells.proofs.Ints.{small-pos}
 use borrow.Author.Needs.{needs}
+use Rattle.cells.proofs.laws.CellLaws.{positive-within, positive-outside}
+use Rattle.cells.proofs.Ints.{small-pos}
 use Rattle.cells.proofs.cell.Cell.positive.Statement.{statement}
 use Rattle.cells.proofs.cell.Cell.positive.Tie as tie
 

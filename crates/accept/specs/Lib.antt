@@ -1,3 +1,0 @@
-pub mod Accept
-pub mod Standing
-pub mod AcceptLaws

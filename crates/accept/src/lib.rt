@@ -1,2 +1,0 @@
-// Questions 2 to 8, put to a text.
-pub mod accept;

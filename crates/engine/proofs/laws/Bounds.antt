@@ -1,0 +1,221 @@
+-- An answer has few rows, each with a number for every table, and its plan has at most sixteen steps. Assumes nothing.
+use mathlib.Core.Path.{_≡_, ap, _∙_, refl, sym, subst}
+use mathlib.Core.Bool.{Bool, true, false, not, _&&_}
+use mathlib.Core.List.{List, [], _∷_, zipWith, _++_, map}
+use mathlib.Core.Option.{none, Option, some}
+use Prim.Native.Nat.{suc, _≤_, ℕ, _+_}
+use native.Mathlib.Omega.{arith}
+use lib.Dec.{T, leb, eqb}
+use lib.ListN.{length, length-map, length-append}
+use mir.Facts.{and-yes, leb-yes, eqb-yes}
+use Rattle.cells.specs.Choice.{if_then_else_}
+use Rattle.cells.specs.Limits.{mostTables, mostRows, mostCells, mostSteps}
+use Rattle.cells.specs.Row.{Row, blankRow}
+use Rattle.rows.specs.Lists.{any, distinct, keep, range, all, _isIn_}
+use Rattle.rows.proofs.laws.ListLaws.{keep-fewer, length-range, here}
+use Rattle.rows.specs.Rows.{same, whollyBlank, dominated, bestMatch}
+use Rattle.rows.proofs.laws.RowLaws.{length-ordered}
+use Rattle.rows.proofs.laws.ShapesLaws.{Lawful}
+use Rattle.rows.specs.Trees.{Database, rowsOf}
+use Rattle.rows.proofs.laws.TreeLaws.{rows-valid}
+use Rattle.rows.specs.Nullification.{Blanking, nullifyAll, finished, planRows}
+use Rattle.rows.proofs.laws.NullificationLaws.{nullifyRow, nullifyAll-map}
+use Rattle.vocabulary.specs.Asking.{firstNo, about}
+use Rattle.vocabulary.proofs.laws.AskingLaws.{append-yes, first-yes, all-yes, first-about}
+use Rattle.vocabulary.specs.Report.{Query, tableCount, tableNumbers, joinOrder, Table, Report, queryOf}
+use Rattle.vocabulary.specs.Nodes.{joinTrees, joinTree, lowerSides, sidesOf, noneTwice, wellBuilt}
+use Rattle.vocabulary.specs.Steps.{bestMatchStep, pairStep, blankingStep, bitsOf}
+use Rattle.vocabulary.proofs.laws.WellRead.{WellRead}
+use Rattle.vocabulary.specs.Database.{databaseOf, rowCountIn, cellsOf, database}
+use Rattle.text.specs.Bytes.{Bytes}
+use Rattle.text.specs.Reading.{readReport}
+use Rattle.text.specs.TableQuestions.{cellsInTables, tableFits, question3}
+use Rattle.plan.specs.Questions.{question9, orderQuestions}
+use Rattle.plan.specs.Plan.{groundOf, plannedJoins, missing, asks, blankings, stepsOf, planTrees, planTree}
+use Rattle.plan.proofs.laws.PairWordLaws.{planned-count}
+use Rattle.plan.proofs.laws.PlanLaws.{plan-matched, order-built, plan-shaped}
+use Rattle.plan.proofs.laws.FoldWords.{blanking-proper}
+use Rattle.plan.specs.Sets.{blankingSets}
+use Rattle.plan.proofs.laws.QueryLaws.{Accepted, query-matched, query-built, query-shaped}
+use Rattle.prepare.specs.Asking.{sharedQuestions, questionsOfReport, questionsOfDirect}
+use Rattle.prepare.proofs.laws.PassedLaws.{three-yes, report-accepted, rows-limit, few-rows, read-well}
+use Rattle.executor.proofs.laws.DatabaseLaws.{lawful, lawful-names, database-width}
+use Rattle.executor.proofs.laws.LimitLaws.{within-small, results-whole}
+use Rattle.executor.proofs.laws.Padding.{finished-wide}
+use Rattle.executor.specs.Runs.{results, withinLimit, directRows, question11Direct, runRows, reportRows, pairCounts, reportSteps, question11}
+use Rattle.engine.specs.Answers.{answered, directQuestions, reportQuestions, ReportAnswer, reportAnswer, reportOutcome, directOutcome}
+use Rattle.engine.proofs.laws.AnswerLaws.{answered-report}
+use Rattle.engine.specs.Calls.{tableCountOf}
+
+-- best match adds no row
+distinct-fewer : {A : Type 0} (same : A → A → Bool) (l : List A) → length (distinct same l) ≤ length l
+unfolding distinct
+distinct-fewer same [] = omega arith
+distinct-fewer {A} same (x ∷ l) = go (any (same x) l) (distinct-fewer same l)
+  where
+    go : (b : Bool) → length (distinct same l) ≤ length l → length (if b then distinct same l else x ∷ distinct same l) ≤ suc (length l)
+    go true h = omega arith
+    go false h = omega arith
+
+best-fewer : (rows : List Row) → length (bestMatch rows) ≤ length rows
+unfolding bestMatch
+best-fewer rows =
+    omega (
+      arith,
+      distinct-fewer same (keep (λ row. not (whollyBlank row) && not (any (dominated row) rows)) rows),
+      keep-fewer (λ (row : Row). not (whollyBlank row) && not (any (dominated row) rows)) rows,
+    )
+
+-- nor do blanking steps and the order
+finished-fewer : {K : Type 0} (D : Database K) (L : List (Blanking K)) (rows : List Row) → length (finished D L rows) ≤ length rows
+unfolding finished
+finished-fewer D [] rows = omega (arith, length-ordered rows)
+finished-fewer D (s ∷ L) rows =
+    let n : length (nullifyAll D (s ∷ L) rows) ≡ length rows = ap length (nullifyAll-map D (s ∷ L) rows) ∙ length-map rows (nullifyRow D (s ∷ L)) in
+    omega (arith, length-ordered (bestMatch (nullifyAll D (s ∷ L) rows)), best-fewer (nullifyAll D (s ∷ L) rows), n)
+
+-- a plan has a step for each pair, at most one for each table, and best match
+zip-fewer : {A B C : Type 0} (f : A → B → C) (l : List A) (m : List B) → length (zipWith f l m) ≤ length l
+unfolding zipWith
+zip-fewer f [] m = omega arith
+zip-fewer f (x ∷ l) [] = omega arith
+zip-fewer f (x ∷ l) (y ∷ m) = let h = zip-fewer f l m in omega arith
+
+best-one : (L : List (Blanking ℕ)) → length (bestMatchStep L) ≤ 1
+unfolding bestMatchStep
+best-one [] = omega arith
+best-one (s ∷ L) = omega arith
+
+pub plan-steps : (q : Query) (counts : List ℕ) → length (stepsOf (groundOf q) counts) ≤ length (joinOrder q) + tableCount q + 1
+unfolding stepsOf blankings tableNumbers
+plan-steps q counts =
+    let A = zipWith pairStep (plannedJoins (groundOf q)) counts in
+    let B = map blankingStep (blankings (groundOf q)) in
+    let C = bestMatchStep (blankings (groundOf q)) in
+    omega (
+      arith,
+      length-append (A ++ B) C,
+      length-append A B,
+      zip-fewer pairStep (plannedJoins (groundOf q)) counts,
+      planned-count (groundOf q),
+      length-map (blankings (groundOf q)) blankingStep,
+      keep-fewer asks (map (λ (t : ℕ). (t, missing (groundOf q) t)) (range 0 (tableCount q))),
+      length-map {B = Blanking ℕ} (range 0 (tableCount q)) (λ (t : ℕ). (t, missing (groundOf q) t)),
+      length-range 0 (tableCount q),
+      best-one (blankings (groundOf q)),
+    )
+
+module _ (r : Report) (well : WellRead (queryOf r)) (accepted : firstNo sharedQuestions r ≡ none) where
+  abbrev q : Query
+  q = queryOf r
+
+  three : T (question3 r)
+  three = three-yes r accepted
+
+  ok : Accepted q
+  ok = report-accepted r accepted well
+
+  -- 1 to 8 tables
+  pub tables-few : tableCount q ≤ mostTables
+  unfolding question3 tableCount queryOf
+  tables-few =
+      let n : ℕ = length (r .tables) in
+      let (a, _) = and-yes (leb 1 n && leb n mostTables && all tableFits (r .tables)) (leb (cellsInTables (r .tables)) mostCells) three in
+      let (b, _) = and-yes (leb 1 n && leb n mostTables) (all tableFits (r .tables)) a in
+      let (_, y) = and-yes (leb 1 n) (leb n mostTables) b in
+      let z : n ≤ mostTables = leb-yes y in
+      omega (arith, z, length-map (r .tables) (λ (t : Table). t .columns))
+
+  few-each : (t : ℕ) → database r .rowCount t ≤ mostRows
+  unfolding database databaseOf
+  few-each t = rows-limit r three t
+
+  abbrev small : (t : ℕ) → rowCountIn r t ≤ blankRow
+  small = few-rows r three
+
+  abbrev laws : Lawful (databaseOf q (rowCountIn r) (cellsOf r))
+  laws = lawful q (rowCountIn r) (cellsOf r) small
+
+  -- ---- the direct reading
+
+  pub direct-few : T (question11Direct r) → length (directRows r) ≤ mostRows
+  unfolding question11Direct withinLimit results joinTree joinTrees directRows
+  direct-few h =
+      let y = within-small (database r) few-each (joinTree q) (results-whole (database r) few-each q (query-matched q ok) (query-built q ok) h) in
+      let z : length (rowsOf (database r) (joinTree q)) ≤ mostRows = leb-yes y in
+      omega (arith, length-ordered (rowsOf (database r) (joinTree q)), z)
+
+  pub direct-wide : (row : Row) → row isIn directRows r → length row ≡ tableCount q
+  unfolding directRows finished database databaseOf
+  direct-wide = finished-wide (database r) (tableCount q) [] (rowsOf (database r) (joinTree q))
+      (λ row m. rows-valid laws (joinTree q)
+      (query-shaped q ok laws (database-width q (rowCountIn r) (cellsOf r) small) (lawful-names q (rowCountIn r) (cellsOf r) small)) row m .len)
+
+  -- ---- the plan
+
+  module _ (nine : T (question9 q)) where
+    built : T (wellBuilt (tableCount q) (joinOrder q))
+    built = order-built q (ok .five) nine
+
+    pub steps-few : length (reportSteps r) ≤ mostSteps
+    unfolding reportSteps wellBuilt
+    steps-few =
+        let n = length (joinOrder q) in
+        let (a, _) = and-yes (eqb (suc n) (tableCount q) && lowerSides (tableCount q) (joinOrder q)) (noneTwice (sidesOf (joinOrder q))) built in
+        let e : suc n ≡ tableCount q = eqb-yes (and-yes (eqb (suc n) (tableCount q)) (lowerSides (tableCount q) (joinOrder q)) a .0) in
+        omega (arith, plan-steps q (pairCounts r), e, tables-few)
+
+    pub report-few : T (question11 r) → length (reportRows r) ≤ mostRows
+    unfolding question11 withinLimit results planTree planTrees reportRows runRows planRows
+    report-few h =
+        let y = within-small (database r) few-each (planTree (groundOf q)) (results-whole (database r) few-each q (plan-matched (groundOf q)) built h) in
+        let z : length (rowsOf (database r) (planTree (groundOf q))) ≤ mostRows = leb-yes y in
+        omega (arith, finished-fewer (database r) (blankings (groundOf q)) (rowsOf (database r) (planTree (groundOf q))), z)
+
+    pub report-wide : (row : Row) → row isIn reportRows r → length row ≡ tableCount q
+    unfolding reportRows runRows planRows database databaseOf
+    report-wide = finished-wide (database r) (tableCount q) (blankings (groundOf q)) (rowsOf (database r) (planTree (groundOf q)))
+        (λ row m. rows-valid laws (planTree (groundOf q))
+        (plan-shaped (groundOf q) laws (database-width q (rowCountIn r) (cellsOf r) small) (lawful-names q (rowCountIn r) (cellsOf r) small) built) row m .len)
+
+-- ---- a text that is answered
+
+-- what an answer of either run has
+pub record Bounded (tables : ℕ) (rows : List Row) : Type 0 where
+  pub eight : tables ≤ mostTables
+  pub few : length rows ≤ mostRows
+  pub wide : (row : Row) → row isIn rows → length row ≡ tables
+
+module _ (bs : Bytes) where
+  width-is : (r : Report) → readReport bs ≡ some r → tableCount (queryOf r) ≡ tableCountOf bs
+  unfolding tableCountOf tableCount queryOf
+  width-is r e = length-map (r .tables) (λ (t : Table). t .columns)
+      ∙ sym (ap (λ (o : Option Report). elim o as (λ z. ℕ) [ none ↦ 0 | some r ↦ length (r .tables) ]) e)
+
+  pub direct-bounded : (rows : List Row) → directOutcome bs ≡ answered rows → Bounded (tableCountOf bs) rows
+  unfolding directOutcome directQuestions questionsOfDirect
+  direct-bounded rows e =
+      let (r, f, g, h) = answered-report directQuestions directRows bs rows e in
+      let (x, y) = append-yes sharedQuestions ((11, λ (r : Report). question11Direct r) ∷ []) r g in
+      let (z, _) = first-yes (11, λ (r : Report). question11Direct r) [] r y in
+      let well = read-well bs r f in
+      subst (λ (n : ℕ). Bounded n rows) (width-is r f)
+      (subst (Bounded (tableCount (queryOf r))) h
+      (record { eight = tables-few r well x; few = direct-few r well x z; wide = direct-wide r well x }))
+
+  pub report-bounded : (a : ReportAnswer) → reportOutcome bs ≡ answered a → Bounded (length (a .sets)) (a .rows) × (length (a .steps) ≤ mostSteps)
+  unfolding reportOutcome reportQuestions questionsOfReport orderQuestions reportAnswer
+  report-bounded a e =
+      let (r, f, g, h) = answered-report reportQuestions reportAnswer bs a e in
+      let (i, k) = append-yes (sharedQuestions ++ about queryOf orderQuestions) ((11, λ (r : Report). question11 r) ∷ []) r g in
+      let (x, y) = append-yes sharedQuestions (about queryOf orderQuestions) r i in
+      let q = queryOf r in
+      let nine = all-yes orderQuestions q (sym (first-about queryOf orderQuestions r) ∙ y) (9, λ (z : Query). question9 z) (here refl) in
+      let (z, _) = first-yes (11, λ (r : Report). question11 r) [] r k in
+      let well = read-well bs r f in
+      let n : tableCount q ≡ length (map bitsOf (blankingSets q)) = sym (length-map (blankingSets q) bitsOf ∙ blanking-proper q .each) in
+      subst (λ (b : ReportAnswer). Bounded (length (b .sets)) (b .rows) × (length (b .steps) ≤ mostSteps)) h (
+        subst (λ (m : ℕ). Bounded m (reportRows r)) n
+            (record { eight = tables-few r well x; few = report-few r well x nine z; wide = report-wide r well x nine }),
+        steps-few r well x nine,
+      )

@@ -1,0 +1,269 @@
+-- The run of a plan as the code does it gives the outcome that document 01 defines. Assumes nothing.
+use mathlib.Core.Path.{_≡_, sym, ap, _∙_, refl, ap₂, subst}
+use mathlib.Core.Bool.{true, false}
+use mathlib.Core.List.{List, [], _∷_, _++_, append-assoc, map, flatMap}
+use mathlib.Core.Option.{some, none}
+use Prim.Native.Nat.{ℕ, _-_, _≤_, suc, _+_, _<_}
+use native.Mathlib.Omega.{arith}
+use lib.Dec.{T, leb, le→leb, not-T}
+use lib.IntN.{ℤ}
+use lib.ListN.{length, replicate, getD, take, drop, length-map, length-drop, List·getD-map}
+use lib.Seq.{ext-getD, getD-drop, getD-take, length-take-le}
+use mir.Facts.{leb-yes}
+use Rattle.cells.proofs.laws.BoolLaws.{is-true, is-false}
+use Rattle.cells.specs.Limits.{mostTables, mostRows, areas}
+use Rattle.cells.specs.Row.{Row}
+use Rattle.cells.proofs.laws.TableLaws.{getD-within}
+use Rattle.rows.specs.Lists.{range, all}
+use Rattle.rows.proofs.laws.ListLaws.{all-intro, all-elim, getD-isIn, length-range}
+use Rattle.rows.specs.Nullification.{finished}
+use Rattle.rows.specs.Trees.{Database, Tree, leaf, rowsOf}
+use Rattle.vocabulary.specs.Asking.{Question, about, firstNo}
+use Rattle.vocabulary.proofs.laws.AskingLaws.{none-left, none-then, no-then, first-about, asked-no, asked-yes}
+use Rattle.vocabulary.specs.Database.{database}
+use Rattle.vocabulary.specs.Report.{Report, queryOf, Query, joinOrder, tableCount, tableNumbers}
+use Rattle.vocabulary.specs.Nodes.{treeOf, treesOf, treeAt, lastTree}
+use Rattle.vocabulary.proofs.laws.NodeLaws.{grown-length}
+use Rattle.vocabulary.proofs.laws.WellRead.{WellRead}
+use Rattle.vocabulary.specs.inner.Stands.{Stands}
+use Rattle.vocabulary.specs.Steps.{bitsOf}
+use Rattle.vocabulary.specs.inner.Stored.{queryIn}
+use Rattle.vocabulary.specs.declared.query.StoredQuery.{StoredQuery}
+use Rattle.text.specs.Bytes.{Bytes}
+use Rattle.text.specs.Reading.{readReport}
+use Rattle.plan.specs.Questions.{orderQuestions, question9}
+use Rattle.plan.specs.Sets.{blankingSets, Sets, setOf}
+use Rattle.plan.specs.Plan.{groundOf, stepsOf, plannedJoins, planTrees, planTree, blankings}
+use Rattle.plan.proofs.laws.FoldWords.{blanking-proper}
+use Rattle.plan.proofs.laws.PairWordLaws.{planned-count}
+use Rattle.plan.specs.inner.StepWords.{listed}
+use Rattle.plan.specs.inner.Words.{setWords, wordsTo}
+use Rattle.prepare.specs.Asking.{sharedQuestions, questionsOfReport}
+use Rattle.prepare.specs.inner.Accept.{refusal}
+use Rattle.prepare.proofs.laws.PassedLaws.{read-well}
+use Rattle.joins.specs.inner.Work.{workspace}
+use Rattle.joins.specs.declared.join.Joined.{Joined}
+use Rattle.joins.specs.declared.join.Joined.the-variants as J
+use Rattle.row_lists.specs.inner.Flat.{flatRows}
+use Rattle.executor.proofs.laws.LimitLaws.{isIn-at}
+use Rattle.executor.proofs.laws.PlanRuns.{PlanRan, ran, over}
+use Rattle.executor.specs.Runs.{question11, results, withinLimit, reportRows, pairCounts, reportSteps}
+use Rattle.engine.specs.Answers.{Outcome, ReportAnswer, refused, reportQuestions, outcomeBy, reportAnswer, reportOutcome, answered}
+use Rattle.engine.proofs.laws.AnswerLaws.{refused-early, outcome-answered, outcome-refused}
+use Rattle.engine.specs.Calls.{factsOf, written}
+use Rattle.engine.proofs.laws.Kept.{nine-yes, query-kept}
+use Rattle.engine.proofs.laws.PlanningLaws.{concludedFor, resultAfter, Reported, StepsRun, rows-counted}
+use Rattle.engine.specs.inner.Planning.{turnedDown, answeredWith, withCounts, handedOver}
+use Rattle.engine.proofs.laws.Reached.{pair-count, node-count, report-count, report-numbers}
+use Rattle.engine.specs.declared.planned.Concluded.{Concluded}
+
+-- an outcome that is known
+pub reported : {o : Outcome ReportAnswer} {w w′ : List ℕ} {r : Concluded} (k : Outcome ReportAnswer) → o ≡ k → r ≡ concludedFor k → w′ ≡ resultAfter k w
+    → Reported o w w′ r
+reported {o} {w} k e x y = record { concluded = x ∙ ap concludedFor (sym e); result = y ∙ ap (λ (z : Outcome ReportAnswer). resultAfter z w) (sym e) }
+
+-- what is asked behind the questions of both runs
+abbrev order : List (Question Report)
+order = about queryOf orderQuestions
+
+abbrev last : List (Question Report)
+last = (11, λ (r : Report). question11 r) ∷ []
+
+-- a text that a question of both runs turns down
+pub report-early : (bs : Bytes) (n : ℕ) (w : List ℕ) {r : Concluded} → refusal bs ≡ some n → r ≡ turnedDown n → Reported (reportOutcome bs) w w r
+unfolding reportOutcome reportQuestions questionsOfReport concludedFor resultAfter
+report-early bs n w e f =
+    reported (refused n)
+    (ap (λ (qs : List (Question Report)). outcomeBy qs reportAnswer bs) (append-assoc sharedQuestions order last) ∙ refused-early (order ++ last) reportAnswer bs n e)
+    f refl
+
+-- ---- what is handed over
+
+-- after the run of a query's plan
+abbrev handedBy : Query → ℕ → List ℕ → Joined → Concluded
+handedBy q n counts (J.Rows k) =
+    answeredWith k (record { tables = n; sets = setWords (blankingSets q) })
+    (withCounts (listed (stepsOf (groundOf q) (replicate (length (joinOrder q)) 0))) counts (n - 1))
+handedBy q n counts J.TooMany = turnedDown 11
+
+handed-by : (s : StoredQuery) (counts : List ℕ) (j : Joined)
+    → handedOver s (setWords (blankingSets (queryIn s))) (listed (stepsOf (groundOf (queryIn s)) (replicate (length (joinOrder (queryIn s))) 0))) counts j
+    ≡ handedBy (queryIn s) (s .«table_count») counts j
+unfolding handedOver
+handed-by s counts (J.Rows k) = refl
+handed-by s counts J.TooMany = refl
+
+-- each table's set as bits, and 0 for the tables that there are not
+sets-words : (S : Sets) → length S ≤ mostTables → setWords S ≡ map bitsOf S ++ replicate (mostTables - length (map bitsOf S)) 0
+unfolding setWords wordsTo setOf bitsOf range
+sets-words [] h = refl
+sets-words (a ∷ []) h = refl
+sets-words (a ∷ b ∷ []) h = refl
+sets-words (a ∷ b ∷ c ∷ []) h = refl
+sets-words (a ∷ b ∷ c ∷ d ∷ []) h = refl
+sets-words (a ∷ b ∷ c ∷ d ∷ e ∷ []) h = refl
+sets-words (a ∷ b ∷ c ∷ d ∷ e ∷ f ∷ []) h = refl
+sets-words (a ∷ b ∷ c ∷ d ∷ e ∷ f ∷ g ∷ []) h = refl
+sets-words (a ∷ b ∷ c ∷ d ∷ e ∷ f ∷ g ∷ i ∷ []) h = refl
+sets-words (a ∷ b ∷ c ∷ d ∷ e ∷ f ∷ g ∷ i ∷ j ∷ S) h = absurd (omega arith)
+
+-- a text that they do not turn down, of which this is kept
+module _ (bs : Bytes) {s : StoredQuery} {cells : List ℤ} {r : Report} (read : readReport bs ≡ some r) (k : Stands s cells r)
+    (yes : firstNo sharedQuestions r ≡ none) where
+  abbrev q : Query
+  q = queryOf r
+
+  well : WellRead q
+  well = read-well bs r read
+
+  asked : firstNo (sharedQuestions ++ order) r ≡ firstNo orderQuestions q
+  asked = none-then sharedQuestions order r yes ∙ first-about queryOf orderQuestions r
+
+  -- a question about the order says no
+  pub report-order : (n : ℕ) (w : List ℕ) {x : Concluded} → firstNo orderQuestions q ≡ some n → x ≡ turnedDown n → Reported (reportOutcome bs) w w x
+  unfolding reportOutcome reportQuestions questionsOfReport concludedFor resultAfter
+  report-order n w e f =
+      reported (refused n)
+      (outcome-refused (sharedQuestions ++ order ++ last) reportAnswer bs r read n (no-then (sharedQuestions ++ order) last r n (asked ∙ e))) f refl
+
+  -- ---- question 11, where the order is admitted
+
+  module _ (admitted : firstNo orderQuestions q ≡ none) where
+    asked-11 : firstNo reportQuestions r ≡ firstNo last r
+    unfolding reportQuestions questionsOfReport
+    asked-11 = none-then (sharedQuestions ++ order) last r (asked ∙ admitted)
+
+    outcome-11 : question11 r ≡ false → reportOutcome bs ≡ refused 11
+    unfolding reportOutcome
+    outcome-11 e = outcome-refused reportQuestions reportAnswer bs r read 11 (asked-11 ∙ asked-no _ _ r e)
+
+    outcome-rows : question11 r ≡ true → reportOutcome bs ≡ answered (reportAnswer r)
+    unfolding reportOutcome
+    outcome-rows e = outcome-answered reportQuestions reportAnswer bs r read (asked-11 ∙ asked-yes _ _ r e ∙ none-left r)
+
+    -- work space, over the cells that the text leaves
+    abbrev W : Database ℕ
+    W = workspace cells (s .layout) (s .conditions)
+
+    abbrev n : ℕ
+    n = tableCount q
+
+    abbrev trees : List (Tree ℕ)
+    trees = planTrees (groundOf q)
+
+    nine : T (question9 q)
+    nine = nine-yes k well yes admitted
+
+    tables-few : n ≤ mostTables
+    tables-few = omega (arith, k .table-count, k .few)
+
+    pairs : suc (length (joinOrder q)) ≡ n
+    pairs = pair-count k well yes nine
+
+    nodes : length trees ≡ n + length (joinOrder q)
+    unfolding planTrees treesOf tableNumbers
+    nodes =
+        let a : length {A = Tree ℕ} (map leaf (tableNumbers q)) ≡ n = length-map (tableNumbers q) leaf ∙ length-range 0 n in
+        grown-length treeOf (map leaf (tableNumbers q)) (plannedJoins (groundOf q)) ∙ ap₂ _+_ a (planned-count (groundOf q))
+
+    -- the results of the pairs
+    abbrev found : List (List Row)
+    found = map (rowsOf (database r)) (drop n trees)
+
+    found-at : (i : ℕ) → getD found i (rowsOf (database r) (leaf 0)) ≡ rowsOf (database r) (treeAt trees (n + i))
+    unfolding treeAt
+    found-at i = List·getD-map (rowsOf (database r)) (drop n trees) i (leaf 0) ∙ ap (rowsOf (database r)) (getD-drop n trees i (leaf 0))
+
+    found-count : length found ≡ length (joinOrder q)
+    found-count = length-map (drop n trees) (rowsOf (database r)) ∙ length-drop n trees ∙ omega (arith, nodes)
+
+    -- the rows of pair i, in work space and in the report's tables
+    pair-rows : (i : ℕ) → i < length (joinOrder q) → length (rowsOf W (treeAt trees (n + i))) ≡ length (rowsOf (database r) (treeAt trees (n + i)))
+    pair-rows i h = node-count k well yes nine (n + i) (omega (arith, nodes, h))
+
+    -- a pair with too many rows
+    module _ (i : ℕ) (h : i < length (joinOrder q)) (o : mostRows < length (rowsOf W (treeAt trees (n + i)))) where
+      eleven-no : question11 r ≡ false
+      unfolding question11 withinLimit results
+      eleven-no = is-false _ (not-T (all (λ (rows : List Row). leb (length rows) mostRows) found) (λ y.
+          let x : T (leb (length (getD found i (rowsOf (database r) (leaf 0)))) mostRows) =
+          all-elim (λ (rows : List Row). leb (length rows) mostRows) found y (getD found i (rowsOf (database r) (leaf 0)))
+          (getD-isIn found i (rowsOf (database r) (leaf 0)) (omega (arith, found-count, h))) in
+          let z : length (getD found i (rowsOf (database r) (leaf 0))) ≤ mostRows = leb-yes x in
+          let e : length (getD found i (rowsOf (database r) (leaf 0))) ≡ length (rowsOf W (treeAt trees (n + i))) =
+          ap length (found-at i) ∙ sym (pair-rows i h) in
+          omega arith))
+
+    -- every pair ran
+    module _ (counts : List ℕ) (long : length counts ≡ areas) (few : (i : ℕ) → i < n - 1 → getD counts i 0 ≤ mostRows)
+        (each : (i : ℕ) → i < n - 1 → getD counts i 0 ≡ length (rowsOf W (treeAt trees (n + i)))) where
+      count-at : (i : ℕ) → i < length (joinOrder q) → getD counts i 0 ≡ length (getD found i (rowsOf (database r) (leaf 0)))
+      count-at i h = each i (omega (arith, pairs, h)) ∙ pair-rows i h ∙ sym (ap length (found-at i))
+
+      eleven-yes : question11 r ≡ true
+      unfolding question11 withinLimit results
+      eleven-yes = is-true (all (λ (rows : List Row). leb (length rows) mostRows) found)
+          (all-intro (λ (rows : List Row). leb (length rows) mostRows) found (λ rows m.
+          let (i, h, e) = isIn-at (rowsOf (database r) (leaf 0)) m in
+          let k : i < length (joinOrder q) = omega (arith, found-count, h) in
+          let c : getD counts i 0 ≡ length rows = count-at i k ∙ ap length e in
+          le→leb (length rows) mostRows (omega (arith, c, few i (omega (arith, pairs, k))))))
+
+      counts-all : take (length (joinOrder q)) counts ≡ pairCounts r
+      unfolding pairCounts results
+      counts-all =
+          let l : length (joinOrder q) ≤ length counts = omega (arith, pairs, long, tables-few) in
+          let a : length (take (length (joinOrder q)) counts) ≡ length (joinOrder q) = length-take-le (length (joinOrder q)) counts l in
+          let b : length (map (λ (rows : List Row). length rows) found) ≡ length (joinOrder q) = length-map found _ ∙ found-count in
+          ext-getD (length (rowsOf (database r) (leaf 0))) (take (length (joinOrder q)) counts) (map (λ (rows : List Row). length rows) found) (a ∙ sym b)
+          (λ i h.
+          let k : i < length (joinOrder q) = omega (arith, a, h) in
+          getD-take (length (joinOrder q)) counts i (length (rowsOf (database r) (leaf 0))) k
+          ∙ getD-within counts i (length (rowsOf (database r) (leaf 0))) 0 (omega arith)
+          ∙ count-at i k
+          ∙ sym (List·getD-map (λ (rows : List Row). length rows) found i (rowsOf (database r) (leaf 0))))
+
+      -- the plan with its counts
+      steps-all : withCounts (listed (stepsOf (groundOf q) (replicate (length (joinOrder q)) 0))) counts (n - 1) ≡ listed (reportSteps r)
+      unfolding reportSteps
+      steps-all =
+          let e : n - 1 ≡ length (joinOrder q) = omega (arith, pairs) in
+          ap (withCounts (listed (stepsOf (groundOf q) (replicate (length (joinOrder q)) 0))) counts) e
+          ∙ rows-counted q counts (omega (arith, pairs, long, tables-few))
+          ∙ ap (λ (ns : List ℕ). listed (stepsOf (groundOf q) ns)) counts-all
+
+      -- the rows of the last node
+      last-node : treeAt trees (n + (n - 1) - 1) ≡ planTree (groundOf q)
+      unfolding planTree lastTree
+      last-node = ap (treeAt trees) (omega (arith, nodes, pairs))
+
+    sets-all : setWords (blankingSets q) ≡ map bitsOf (blankingSets q) ++ replicate (mostTables - length (map bitsOf (blankingSets q))) 0
+    sets-all = sets-words (blankingSets q) (omega (arith, blanking-proper q .each, tables-few))
+
+    tables-all : n ≡ length (map bitsOf (blankingSets q))
+    tables-all = sym (length-map (blankingSets q) bitsOf ∙ blanking-proper q .each)
+
+    -- the plan run
+    ran-gives : (w w′ : List ℕ) {x : Concluded} (counts : List ℕ) (j : Joined) → length counts ≡ areas → PlanRan W trees n (n - 1) (blankings (groundOf q)) counts w w′ j
+        → x ≡ handedBy q n counts j → Reported (reportOutcome bs) w w′ x
+    unfolding concludedFor factsOf resultAfter reportAnswer written flatRows
+    ran-gives w w′ counts _ long (ran m few each x) e =
+        let f : finished W (blankings (groundOf q)) (rowsOf W (treeAt trees (n + (n - 1) - 1))) ≡ finished W (blankings (groundOf q)) (rowsOf W (planTree (groundOf q))) =
+        ap (λ (E : Tree ℕ). finished W (blankings (groundOf q)) (rowsOf W E)) (last-node counts long few each) in
+        let c : m ≡ length (reportRows r) = x .count ∙ ap length f ∙ report-count k well yes nine in
+        let v : flatRows n (finished W (blankings (groundOf q)) (rowsOf W (treeAt trees (n + (n - 1) - 1)))) ≡ flatMap (λ (row : Row). row) (reportRows r) =
+        ap (flatMap (take n)) f ∙ report-numbers k well yes nine in
+        reported (answered (reportAnswer r)) (outcome-rows (eleven-yes counts long few each))
+        (e ∙ rw (c, sets-all, steps-all counts long few each, tables-all)) (x .numbers ∙ rw v)
+    ran-gives w w′ counts _ long (over i h o f) e =
+        reported (refused 11) (outcome-11 (eleven-no i (omega (arith, pairs, h)) o)) e f
+
+    -- and run by the code
+    pub report-ran : (w w′ : List ℕ) {x : Concluded} → StepsRun W s w w′ x → Reported (reportOutcome bs) w w′ x
+    report-ran w w′ y =
+        let same = query-kept k well yes admitted in
+        ran-gives w w′ (y .counts) (y .joined) (y .long)
+        (subst (λ (m : ℕ). PlanRan W trees m (m - 1) (blankings (groundOf q)) (y .counts) w w′ (y .joined)) (k .table-count)
+        (subst (λ (z : Query). PlanRan W (planTrees (groundOf z)) (s .«table_count») (s .«table_count» - 1) (blankings (groundOf z)) (y .counts) w w′ (y .joined)) same (y .ran)))
+        (y .handed ∙ handed-by s (y .counts) (y .joined)
+        ∙ ap₂ (λ (z : Query) (m : ℕ). handedBy z m (y .counts) (y .joined)) same (k .table-count))

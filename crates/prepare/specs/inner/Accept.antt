@@ -1,0 +1,48 @@
+-- Questions 2 to 8 on a text, as the code answers them, and what is kept of a text that passes them. For the functions of src/accept.rt.
+-- Specification 9.4, 9.5, 9.6, 9.7, 9.8, 9.9, 9.10. Assumes nothing.
+use mathlib.Core.Path.{_≡_}
+use mathlib.Core.List.{List}
+use mathlib.Core.Option.{Option, none, some}
+use Prim.Native.Nat.{ℕ, _≤_}
+use lib.IntN.{ℤ}
+use lib.ListN.{length}
+use Rattle.cells.specs.Limits.{cellRoom}
+use Rattle.vocabulary.specs.Report.{Report, queryOf}
+use Rattle.vocabulary.specs.Asking.{firstNo}
+use Rattle.vocabulary.specs.inner.Stands.{Stands}
+use Rattle.vocabulary.specs.declared.query.StoredQuery.{StoredQuery}
+use Rattle.text.specs.Bytes.{Bytes}
+use Rattle.text.specs.Reading.{readReport}
+use Rattle.reader.specs.inner.Outcome.{CellsAfter}
+use Rattle.plan.specs.Questions.{queryQuestions}
+use Rattle.prepare.specs.Asking.{sharedQuestions}
+use Rattle.prepare.specs.declared.accept.AcceptAnswer.{AcceptAnswer}
+use Rattle.prepare.specs.declared.accept.AcceptOutcome.{AcceptOutcome}
+use Rattle.prepare.specs.declared.accept.AcceptOutcome.the-variants.{Refused, Accepted}
+
+-- the number of the first of questions 2 to 8 that is answered no. Specification 9.1
+unfoldable pub refusal : Bytes → Option ℕ
+refusal bs = elim (readReport bs) [ none ↦ some 2 | some r ↦ firstNo sharedQuestions r ]
+
+-- the number that an answer gives
+unfoldable pub numberIn : AcceptOutcome → Option ℕ
+numberIn (Refused n) = some n
+numberIn Accepted = none
+
+-- what the query is asked, of every report that the stored query stands for
+abbrev pub Asked : StoredQuery → AcceptOutcome → Type 0
+Asked s o = (cells : List ℤ) (r : Report) → Stands s cells r → numberIn o ≡ firstNo queryQuestions (queryOf r)
+
+-- what is kept of a text stands for the report that it says; where the cell buffer has room for the cells, it has them
+pub record KeptText (bs : Bytes) (before after : List ℤ) (s : StoredQuery) : Type 0 where
+  pub report : Report
+  pub read : readReport bs ≡ some report
+  pub cells : List ℤ
+  pub stands : Stands s cells report
+  pub buffer : cellRoom ≤ length before → after ≡ cells
+
+-- what a call answers, with the cell buffer before and after it. Specification 9.1
+pub record Accepts (bs : Bytes) (before after : List ℤ) (a : AcceptAnswer) : Type 0 where
+  pub answer : numberIn (a .outcome) ≡ refusal bs
+  pub buffer : CellsAfter bs before after
+  pub kept : a .outcome ≡ Accepted → KeptText bs before after (a .query)

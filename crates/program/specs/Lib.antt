@@ -1,3 +1,0 @@
-pub mod PrintedCalls
-pub mod DirectPrint
-pub mod ReportPrint

@@ -1,0 +1,7 @@
+-- Laws of the definitions, and what only proofs use.
+pub mod BuiltQuestions
+pub mod BuiltWordLaws
+pub mod ConditionWordLaws
+pub mod Kept
+pub mod TreeWordLaws
+pub mod Whole

@@ -1,0 +1,79 @@
+-- The cells that an accepted text's layout and cell buffer hold are the report's, at every table, row and column, also where there is none.
+-- Assumes nothing.
+use mathlib.Core.Path.{_≡_, refl, _∙_, ap}
+use mathlib.Core.Bool.{Bool, true, false, and-false}
+use mathlib.Core.List.{List, [], _++_, map}
+use Prim.Native.Nat.{ℕ, zero, suc, _≤_, _<_}
+use native.Mathlib.Omega.{arith}
+use lib.Dec.{eqb, ltb}
+use lib.IntN.{ℤ}
+use lib.ListN.{replicate, getD, length, length-replicate, length-map, List·getD-eq-default}
+use lib.Seq.{sets}
+use borrow.Author.Tests.{le-ltb, ltb-true, ltb-false}
+use Rattle.cells.proofs.laws.BoolLaws.{is-true}
+use Rattle.cells.specs.Cell.{blankCell}
+use Rattle.cells.specs.Limits.{mostTables, mostCells}
+use Rattle.cells.specs.Condition.{ownCell, cellsIn}
+use Rattle.cells.specs.declared.condition.Layout.{Layout}
+use Rattle.rows.specs.Lists.{all}
+use Rattle.rows.proofs.laws.ListLaws.{all-elim, getD-isIn}
+use Rattle.vocabulary.specs.Report.{Table}
+use Rattle.text.specs.Lines.{Line}
+use Rattle.text.specs.LineParts.{tableLines}
+use Rattle.text.proofs.laws.ReadingLaws.{earlyRows}
+use Rattle.text.specs.Reading.{tablesIn, reportOf}
+use Rattle.text.specs.TableQuestions.{cellsInTables, question4}
+use Rattle.reader.proofs.laws.FlatCells.{flatTables}
+use Rattle.reader.specs.inner.State.{noTables, closedRows}
+use Rattle.reader.specs.inner.Survey.{start}
+use Rattle.reader.specs.inner.Agrees.{linesAfter}
+use Rattle.reader.proofs.laws.KeptLaws.{columns-kept}
+use Rattle.reader.proofs.laws.QueryLaws.{sets-behind, done}
+use Rattle.reader.specs.inner.Query.{storedOf}
+use Rattle.reader.proofs.laws.Looked.{Wide, noTable, cells-looked}
+
+abbrev none : ℕ → List ℕ
+none n = replicate n 0
+
+zeros : (n i : ℕ) → getD (none n) i 0 ≡ 0
+zeros zero i = refl
+zeros (suc n) zero = refl
+zeros (suc n) (suc i) = zeros n i
+
+-- behind the values that were stored in an array of zeros there are zeros
+sets-beyond : (n : ℕ) (vs : List ℕ) (t : ℕ) → length vs ≤ n → length vs ≤ t → getD (sets (none n) 0 vs) t 0 ≡ 0
+sets-beyond n vs t h k = sets-behind (none n) vs t 0 (rw length-replicate h) k ∙ zeros n t
+
+module _ (ls : List Line) (early : earlyRows ls ≡ []) (fits : length (tablesIn ls) ≤ mostTables)
+    (few : cellsInTables (tablesIn ls) ≤ mostCells) (even : question4 (reportOf ls) ≡ true) where
+  abbrev ts : List Table
+  ts = tablesIn ls
+
+  abbrev layout : Layout
+  layout = (storedOf (done ls)) .layout
+
+  columns-beyond : (t : ℕ) → length ts ≤ t → getD (layout .columns) t 0 ≡ 0
+  unfolding storedOf closedRows linesAfter start noTables
+  columns-beyond t h =
+      let n : length (map (λ (x : Table). x .columns) ts) ≡ length ts = length-map ts (λ (x : Table). x .columns) in
+      ap (λ (x : List ℕ). getD x t 0) (columns-kept noTables (tableLines ls))
+      ∙ sets-beyond mostTables (map (λ (x : Table). x .columns) ts) t (rw n fits) (rw n h)
+
+  wide : (t : ℕ) → t < length ts → Wide (getD ts t noTable .columns) (getD ts t noTable .rows)
+  unfolding question4 reportOf
+  wide t h = is-true _ (all-elim (λ (x : Table). all (λ (zs : List ℤ). eqb (length zs) (x .columns)) (x .rows)) ts (rw even tt)
+      (getD ts t noTable) (getD-isIn ts t noTable h))
+
+  pub cells-whole : (more : List ℤ) (t row column : ℕ)
+      → cellsIn (flatTables ts ++ more) layout t row column ≡ getD (getD (getD ts t noTable .rows) row []) column blankCell
+  unfolding cellsIn ownCell noTable
+  cells-whole more t row column = go (ltb t (length ts)) refl
+    where
+      go : (b : Bool) → ltb t (length ts) ≡ b
+          → cellsIn (flatTables ts ++ more) layout t row column ≡ getD (getD (getD ts t noTable .rows) row []) column blankCell
+      go true e = cells-looked ls early fits few t (ltb-true t (length ts) e) more row column (wide t (ltb-true t (length ts) e))
+      go false e =
+          let h : length ts ≤ t = ltb-false t (length ts) e in
+          let z : getD ts t noTable ≡ noTable = List·getD-eq-default ts noTable h in
+          let no : ltb column 0 ≡ false = le-ltb column 0 (omega arith) in
+          rw (columns-beyond t h, no, and-false (ltb row (getD (layout .rows) t 0)), z)

@@ -1,2 +1,0 @@
-// A query made ready for its run.
-pub mod prepared;

@@ -1,0 +1,152 @@
+-- A line by its letter, and a line that no letter opens. Assumes nothing.
+use mathlib.Core.Path.{_≡_, _∙_, refl, sym, ap}
+use mathlib.Core.Bool.{false}
+use mathlib.Core.List.{[], _∷_, List}
+use mathlib.Core.Option.{Option, none, some}
+use Prim.Native.Nat.{ℕ, _+_, _≤_, _-_}
+use Prim.Native.String.{String}
+use native.Mathlib.Omega.{arith}
+use lib.ListN.{length, getD, take, drop}
+use lib.Seq.{getD-take, length-take-le}
+use Rattle.text.specs.Bytes.{Bytes, tab, split, bytes, sameBytes}
+use Rattle.text.specs.Lines.{Line, inPart, tablesPart, joinsPart, orderPart, field, oneOf, word, formT, formD, formJ, formC, formK, formP, firstOf, lineBy, lineOf, Form, _>>=_}
+use Rattle.text.specs.inner.Parts.{until, fieldsFrom}
+use Rattle.text.proofs.laws.PartsLaws.{field-here, fields-all}
+use Rattle.text.proofs.laws.RangesLaws.{differ-one, differ-length}
+use Rattle.text.proofs.laws.FieldsLaws.{fieldOf, field-cons}
+use Rattle.text.specs.declared.line.LineRead.the-variants as R
+use Rattle.text.specs.inner.Forms.{given, tableForm, rowForm, joinForm, columnForm, constantForm, orderForm, lineRead, formRead}
+use Rattle.text.proofs.laws.FormsLaws.{then-none}
+
+-- the fields of a line whose first field is one byte
+pub letter-fields : (l : Bytes) (to b : ℕ) → to ≡ 0 + until tab (drop 0 l) → to ≤ length l → to ≡ 1 → getD l 0 0 ≡ b
+    → split tab l ≡ (b ∷ []) ∷ fieldsFrom l 2
+letter-fields l to b e h o g = fields-all l ∙ field-here l 0 to e (omega arith) ∙ rw o (first l b (rw o at h) g)
+  where
+    first : (l : Bytes) (b : ℕ) → 1 ≤ length l → getD l 0 0 ≡ b → take 1 l ∷ fieldsFrom l 2 ≡ (b ∷ []) ∷ fieldsFrom l 2
+    first [] b h g = absurd (omega arith)
+    first (x ∷ l) b h g = rw g
+
+given-is : {A : Type 0} (part : A → Line) (o : Option (A × List Bytes))
+    → inPart part (elim o [ none ↦ none | some r ↦ some (r .0) ]) none ≡ given part o
+unfolding inPart
+given-is part none = refl
+given-is part (some r) = refl
+
+module _ (fs : List Bytes) where
+  by-letter-T : lineBy ((84 ∷ []) ∷ fs) ≡ given tablesPart (tableForm fs)
+  unfolding lineBy inPart firstOf formT formD formJ formC formK formP tableForm word field oneOf bytes sameBytes
+  by-letter-T = given-is tablesPart (tableForm fs)
+
+  pub by-letter-D : lineBy ((68 ∷ []) ∷ fs) ≡ given tablesPart (rowForm fs)
+  unfolding lineBy inPart firstOf formT formD formJ formC formK formP rowForm word field oneOf bytes sameBytes
+  by-letter-D = given-is tablesPart (rowForm fs)
+
+  by-letter-J : lineBy ((74 ∷ []) ∷ fs) ≡ given joinsPart (joinForm fs)
+  unfolding lineBy inPart firstOf formT formD formJ formC formK formP joinForm word field oneOf bytes sameBytes
+  by-letter-J = given-is joinsPart (joinForm fs)
+
+  by-letter-C : lineBy ((67 ∷ []) ∷ fs) ≡ given joinsPart (columnForm fs)
+  unfolding lineBy inPart firstOf formT formD formJ formC formK formP columnForm word field oneOf bytes sameBytes
+  by-letter-C = given-is joinsPart (columnForm fs)
+
+  by-letter-K : lineBy ((75 ∷ []) ∷ fs) ≡ given joinsPart (constantForm fs)
+  unfolding lineBy inPart firstOf formT formD formJ formC formK formP constantForm word field oneOf bytes sameBytes
+  by-letter-K = given-is joinsPart (constantForm fs)
+
+  by-letter-P : lineBy ((80 ∷ []) ∷ fs) ≡ given orderPart (orderForm fs)
+  unfolding lineBy inPart firstOf formT formD formJ formC formK formP orderForm word field oneOf bytes sameBytes
+  by-letter-P = given-is orderPart (orderForm fs)
+
+module _ (l : Bytes) (to : ℕ) (e : to ≡ 0 + until tab (drop 0 l)) (h : to ≤ length l) where
+  line-by : (b : ℕ) {o : Option Line} → to ≡ 1 → getD l 0 0 ≡ b → lineBy ((b ∷ []) ∷ fieldsFrom l 2) ≡ o → lineRead o ≡ lineRead (lineOf l)
+  unfolding lineOf
+  line-by b u g p = ap lineRead (sym (ap lineBy (letter-fields l to b e h u g) ∙ p))
+
+  pub line-T : to ≡ 1 → getD l 0 0 ≡ 84 → formRead tablesPart (tableForm (fieldsFrom l 2)) ≡ lineRead (lineOf l)
+  line-T u g = line-by 84 u g (by-letter-T (fieldsFrom l 2))
+
+  pub line-D : to ≡ 1 → getD l 0 0 ≡ 68 → formRead tablesPart (rowForm (fieldsFrom l 2)) ≡ lineRead (lineOf l)
+  line-D u g = line-by 68 u g (by-letter-D (fieldsFrom l 2))
+
+  pub line-J : to ≡ 1 → getD l 0 0 ≡ 74 → formRead joinsPart (joinForm (fieldsFrom l 2)) ≡ lineRead (lineOf l)
+  line-J u g = line-by 74 u g (by-letter-J (fieldsFrom l 2))
+
+  pub line-C : to ≡ 1 → getD l 0 0 ≡ 67 → formRead joinsPart (columnForm (fieldsFrom l 2)) ≡ lineRead (lineOf l)
+  line-C u g = line-by 67 u g (by-letter-C (fieldsFrom l 2))
+
+  pub line-K : to ≡ 1 → getD l 0 0 ≡ 75 → formRead joinsPart (constantForm (fieldsFrom l 2)) ≡ lineRead (lineOf l)
+  line-K u g = line-by 75 u g (by-letter-K (fieldsFrom l 2))
+
+  pub line-P : to ≡ 1 → getD l 0 0 ≡ 80 → formRead orderPart (orderForm (fieldsFrom l 2)) ≡ lineRead (lineOf l)
+  line-P u g = line-by 80 u g (by-letter-P (fieldsFrom l 2))
+
+-- ---- a line that no letter opens
+
+unfoldable pub chosen : {A : Type 0} → Option (A × List Bytes) → Option A → Option A
+chosen none rest = rest
+chosen (some r) rest = some (r .0)
+
+module _ {A : Type 0} (f : Form A) (more : List (Form A)) (fs : List Bytes) where
+  pub first-chosen : firstOf (f ∷ more) fs ≡ chosen (f fs) (firstOf more fs)
+  unfolding firstOf chosen
+  first-chosen = go (f fs)
+    where
+      go : (o : Option (A × List Bytes))
+          → _≡_ {A = Option A} (elim o [ none ↦ firstOf more fs | some r ↦ some (r .0) ]) (chosen o (firstOf more fs))
+      go none = refl
+      go (some r) = refl
+
+  first-none : none ≡ f fs → none ≡ firstOf more fs → none ≡ firstOf (f ∷ more) fs
+  unfolding chosen
+  first-none p q = q ∙ ap (λ (o : Option (A × List Bytes)). chosen o (firstOf more fs)) p ∙ sym first-chosen
+
+part-none : {A : Type 0} (part : A → Line) {o : Option A} {other : Option Line} → none ≡ o → none ≡ other → none ≡ inPart part o other
+unfolding inPart
+part-none part {o} {other} e g = g ∙ ap (λ (z : Option _). inPart part z other) e
+
+module _ (x : Bytes) (fs : List Bytes) where
+  word-none : (w : String) → sameBytes x (bytes w) ≡ false → none ≡ word w (x ∷ fs)
+  unfolding word oneOf fieldOf
+  word-none w h = sym (field-cons (oneOf ((w, tt) ∷ [])) x fs ∙ rw h)
+
+  pub form-none : {A : Type 0} (w : String) (f : Unit → Form A) → sameBytes x (bytes w) ≡ false → none ≡ (word w >>= f) (x ∷ fs)
+  form-none w f h = then-none (word w) f (x ∷ fs) (word-none w h)
+
+  no-letter : sameBytes x (bytes "T") ≡ false → sameBytes x (bytes "D") ≡ false → sameBytes x (bytes "J") ≡ false
+      → sameBytes x (bytes "C") ≡ false → sameBytes x (bytes "K") ≡ false → sameBytes x (bytes "P") ≡ false
+      → none ≡ lineBy (x ∷ fs)
+  unfolding lineBy firstOf formT formD formJ formC formK formP tableForm rowForm joinForm columnForm constantForm orderForm
+  no-letter t d j c k p =
+      part-none tablesPart
+      (first-none formT (formD ∷ []) (x ∷ fs) (form-none "T" (λ u. tableForm) t)
+      (first-none formD [] (x ∷ fs) (form-none "D" (λ u. rowForm) d) refl))
+      (part-none joinsPart
+      (first-none formJ (formC ∷ formK ∷ []) (x ∷ fs) (form-none "J" (λ u. joinForm) j)
+      (first-none formC (formK ∷ []) (x ∷ fs) (form-none "C" (λ u. columnForm) c)
+      (first-none formK [] (x ∷ fs) (form-none "K" (λ u. constantForm) k) refl)))
+      (part-none orderPart (first-none formP [] (x ∷ fs) (form-none "P" (λ u. orderForm) p) refl) refl))
+
+module _ (l : Bytes) (to : ℕ) (e : to ≡ 0 + until tab (drop 0 l)) (h : to ≤ length l) where
+  pub line-fields : split tab l ≡ take to l ∷ fieldsFrom l (to + 1)
+  line-fields =
+      let z : to - 0 ≡ to = omega arith in
+      fields-all l ∙ field-here l 0 to e (omega arith) ∙ rw z
+
+  pub line-long : (to ≡ 1 → ⊥) → none ≡ lineOf l
+  unfolding lineOf bytes
+  line-long n =
+      let m : length (take to l) ≡ 1 → ⊥ = λ q. n (sym (length-take-le to l h) ∙ q) in
+      no-letter (take to l) (fieldsFrom l (to + 1)) (differ-length (take to l) 84 m) (differ-length (take to l) 68 m)
+      (differ-length (take to l) 74 m) (differ-length (take to l) 67 m) (differ-length (take to l) 75 m)
+      (differ-length (take to l) 80 m) ∙ sym (ap lineBy line-fields)
+
+  pub line-other : to ≡ 1 → (getD l 0 0 ≡ 84 → ⊥) → (getD l 0 0 ≡ 68 → ⊥) → (getD l 0 0 ≡ 74 → ⊥) → (getD l 0 0 ≡ 67 → ⊥)
+      → (getD l 0 0 ≡ 75 → ⊥) → (getD l 0 0 ≡ 80 → ⊥) → R.NoForm ≡ lineRead (lineOf l)
+  unfolding lineOf bytes
+  line-other u t d j c k p =
+      let g : getD (take to l) 0 0 ≡ getD l 0 0 = getD-take to l 0 0 (omega arith) in
+      let at : (w : ℕ) → (getD l 0 0 ≡ w → ⊥) → sameBytes (take to l) (w ∷ []) ≡ false =
+      λ w n. differ-one (take to l) w (λ q. n (sym g ∙ q)) in
+      ap lineRead (no-letter (take to l) (fieldsFrom l (to + 1)) (at 84 t) (at 68 d) (at 74 j) (at 67 c) (at 75 k) (at 80 p)
+      ∙ sym (ap lineBy line-fields))

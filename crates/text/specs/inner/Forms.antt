@@ -1,0 +1,69 @@
+-- What the reading of a line says, and the form of each kind of line behind its letter. Assumes nothing.
+use mathlib.Core.List.{List}
+use mathlib.Core.Option.{Option, none, some}
+use lib.ListN.{length}
+use Rattle.cells.specs.declared.condition.Side.the-variants.{Column, Constant}
+use Rattle.text.specs.Bytes.{Bytes}
+use Rattle.text.specs.Numbers.{constant}
+use Rattle.text.specs.Lines.{kindOf, tableLine, rowLine, joinLine, conditionLine, orderLine, Line, tablesPart, joinsPart, orderPart, TableLine, Form, _>>=_, _>>_, end, numberField, cellFields, JoinLine, kindField, operatorField, field, OrderLine}
+use Rattle.text.specs.declared.line.LineRead.{LineRead}
+use Rattle.text.specs.declared.line.LineRead.the-variants as R
+
+-- what the reading of a line says: of a D line, how many cells it has
+abbrev pub lineRead : Option Line → LineRead
+lineRead none = R.NoForm
+lineRead (some (tablesPart (tableLine n))) = R.Table n
+lineRead (some (tablesPart (rowLine zs))) = R.Row (length zs)
+lineRead (some (joinsPart (joinLine k l r))) = R.Join (kindOf k) l r
+lineRead (some (joinsPart (conditionLine c))) = R.Condition c
+lineRead (some (orderPart (orderLine l r))) = R.Order l r
+
+-- the line that a form of a part gives
+abbrev pub given : {A : Type 0} → (A → Line) → Option (A × List Bytes) → Option Line
+given part none = none
+given part (some r) = some (part (r .0))
+
+abbrev pub formRead : {A : Type 0} → (A → Line) → Option (A × List Bytes) → LineRead
+formRead part o = lineRead (given part o)
+
+-- ---- the forms behind the letters
+
+unfoldable pub tableForm : Form TableLine
+tableForm = do
+  n ← numberField
+  end (tableLine n)
+
+unfoldable pub rowForm : Form TableLine
+rowForm = do
+  zs ← cellFields
+  end (rowLine zs)
+
+unfoldable pub joinForm : Form JoinLine
+joinForm = do
+  k ← kindField
+  l ← numberField
+  r ← numberField
+  end (joinLine k l r)
+
+unfoldable pub columnForm : Form JoinLine
+columnForm = do
+  t ← numberField
+  c ← numberField
+  o ← operatorField
+  u ← numberField
+  d ← numberField
+  end (conditionLine (record { table = t; column = c; operator = o; side = Column u d }))
+
+unfoldable pub constantForm : Form JoinLine
+constantForm = do
+  t ← numberField
+  c ← numberField
+  o ← operatorField
+  z ← field constant
+  end (conditionLine (record { table = t; column = c; operator = o; side = Constant z }))
+
+unfoldable pub orderForm : Form OrderLine
+orderForm = do
+  l ← numberField
+  r ← numberField
+  end (orderLine l r)

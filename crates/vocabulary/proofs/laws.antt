@@ -1,0 +1,6 @@
+-- Laws of the definitions, and what only proofs use.
+pub mod AskingLaws
+pub mod BitLaws
+pub mod NodeLaws
+pub mod WellRead
+pub mod WordLaws
