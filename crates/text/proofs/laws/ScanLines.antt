@@ -31,7 +31,7 @@ use Rattle.text.proofs.laws.Letters.{line-D}
 use Rattle.text.specs.declared.line.LineRead.the-variants as R
 use Rattle.text.specs.declared.scan.CellAt.{CellAt}
 use Rattle.text.specs.declared.scan.CellAt.the-variants as A
-use Rattle.text.specs.inner.Scan.{CellFound, CellStands, bytesBetween}
+use Rattle.text.specs.inner.Scan.{CellFound, ValueFound, CellStands, bytesBetween}
 use Rattle.text.proofs.laws.ScanLaws.{length-between, between-none, between-first}
 
 -- ---- the bytes of a cell are the minus sign, 45, and digits, 48 to 57: all above the separators, 9 and 10
@@ -127,7 +127,7 @@ until-inside s bs at h =
 
 -- what the answer with a cell says
 pub cell-found : (bs : Bytes) (from : ℕ) {r : CellAt} (z : ℤ) (to : ℕ) → CellStands bs from r → r ≡ A.Value z to → CellFound bs from z to
-cell-found bs from z to h e = subst (CellStands bs from) e h
+cell-found bs from z to h e = subst (ValueFound bs from) e (h .0)
 
 module _ (bs : Bytes) (from to : ℕ) (z : ℤ) (k : CellFound bs from z to) where
   -- it fits 32 bits
