@@ -12,15 +12,15 @@ use lib.IntN.{ℤ, pos, negsuc, negℤ}
 use lib.ListN.{length, drop, length-drop, getD}
 use lib.Seq.{length-take-le, take-suc, getD-drop, drop-cons, drop-drop, take-add}
 use borrow.Author.Tests.{le-ltb}
-use Rattle.cells.proofs.laws.BoolLaws.{clash}
 use Rattle.cells.specs.Cell.{lowestCell, highestCell, cellOf, blankCell}
 use Rattle.cells.proofs.laws.CellLaws.{positive-within, negative-within}
+use Rattle.rows.proofs.laws.ListLaws.{drop-take}
 use Rattle.text.specs.Bytes.{Bytes, tab, lineFeed}
 use Rattle.text.specs.Numbers.{natural, positive, ifMade, cell, negative, number, digit, decimal, valueOf, constant}
 use Rattle.text.specs.inner.Digits.{nextValue, digitsFrom}
 use Rattle.text.proofs.laws.DigitsLaws.{number-same, number-digits, digits-more, digits-first, digits-append, natural-first}
 use Rattle.text.specs.inner.Ranges.{withinRange}
-use Rattle.text.proofs.laws.RangesLaws.{found, constant-plain, cell-other, constant-is, cell-long, cell-blank, constant-empty, positive-some, negative-some}
+use Rattle.text.proofs.laws.RangesLaws.{found, constant-plain, cell-other, constant-is, cell-long, cell-blank, positive-some, negative-some}
 use Rattle.text.specs.inner.Scan.{bytesBetween, mostMagnitude, DigitsStand, DigitsEnd, CellFound, FieldEnds, FieldAnswered}
 use Rattle.text.specs.declared.scan.CellAt.{CellAt}
 use Rattle.text.specs.declared.scan.CellAt.the-variants as A
@@ -47,6 +47,12 @@ between-parts bs from mid to h k =
     let e : to - from ≡ (mid - from) + (to - mid) = omega arith in
     let g : from + (mid - from) ≡ mid = omega arith in
     rw e (take-add (mid - from) (to - mid) (drop from bs) ∙ rw (drop-drop (mid - from) from bs, g))
+
+-- all but the first i
+pub between-drop : (bs : Bytes) (from i to : ℕ) → from + i ≤ to → drop i (bytesBetween bs from to) ≡ bytesBetween bs (from + i) to
+between-drop bs from i to h =
+    let e : to - from ≡ i + (to - (from + i)) = omega arith in
+    rw (e, drop-take i (to - (from + i)) (drop from bs), drop-drop i from bs)
 
 -- the first byte, and those behind it
 pub between-first : (bs : Bytes) (from to : ℕ) → from < to → to ≤ length bs → bytesBetween bs from to ≡ getD bs from 0 ∷ bytesBetween bs (from + 1) to
@@ -264,12 +270,12 @@ module _ (bs : Bytes) (from : ℕ) (e : getD bs from 0 ≡ 45) where
   answered-minus a l m v i d n z to k f =
       ⊎-elim
       (λ (g, q).
-        let o : from + 1 ≡ to = alone bs from z to k g in
-        let p : getD bs (from + 1) 0 < 48 = rw o (end-low bs to f (omega arith)) in
-        absurd (omega (arith, p, l)))
+      let o : from + 1 ≡ to = alone bs from z to k g in
+      let p : getD bs (from + 1) 0 < 48 = rw o (end-low bs to f (omega arith)) in
+      absurd (omega (arith, p, l)))
       (λ (b, g, w, q, x, y, p, r).
-        let (h, s, t) = digit-there z to b g k q in
-        let u : digitsFrom mostMagnitude (getD bs (from + 1) 0 - 48) (bytesBetween bs (from + 1 + 1) to) ≡ some w = rw (s, t) at p in
-        let (c, j) = digits-whole bs (from + 1 + 1) (getD bs (from + 1) 0 - 48) v i d n w to (omega (arith, h)) (k .1) f u in
-        rw (r, c, j))
+      let (h, s, t) = digit-there z to b g k q in
+      let u : digitsFrom mostMagnitude (getD bs (from + 1) 0 - 48) (bytesBetween bs (from + 1 + 1) to) ≡ some w = rw (s, t) at p in
+      let (c, j) = digits-whole bs (from + 1 + 1) (getD bs (from + 1) 0 - 48) v i d n w to (omega (arith, h)) (k .1) f u in
+      rw (r, c, j))
       (cell-signed (bytesBetween bs (from + 1) to) z (sign-byte z to k))
