@@ -101,12 +101,12 @@ module _ (bs : Bytes) (from first : ℕ) where
       between-parts bs from i j h (omega arith) ∙ rw (between-first bs i j l k) in
       let q = sym (digits-append mostMagnitude first v (bytesBetween bs from i) (getD bs i 0 ∷ bytesBetween bs (i + 1) j) d)
       ∙ sym (ap (digitsFrom mostMagnitude first) p) ∙ e in
-      let r = digits-first mostMagnitude v w (getD bs i 0) (bytesBetween bs (i + 1) j) q in
-      (r .0, r .1, r .2)
+      let (x, y, z, r) = digits-first mostMagnitude v w (getD bs i 0) (bytesBetween bs (i + 1) j) q in
+      (x, y, z)
 
-  -- digits that stop stop where a field of digits ends
-  digits-whole : (v i : ℕ) → DigitsStand bs from first v i → DigitsEnd bs v i
-      → (w j : ℕ) → from ≤ j → j ≤ length bs → FieldEnds bs j → digitsFrom mostMagnitude first (bytesBetween bs from j) ≡ some w → (v ≡ w) × (i ≡ j)
+  -- where a field that ends at j is digits, the digits stop at j
+  digits-whole : (v i : ℕ) → DigitsStand bs from first v i → DigitsEnd bs v i → (w j : ℕ) → from ≤ j → j ≤ length bs → FieldEnds bs j
+      → digitsFrom mostMagnitude first (bytesBetween bs from j) ≡ some w → (v ≡ w) × (i ≡ j)
   digits-whole v i d n w j h k f e =
       elim (decLt i j) [
         | yes l ↦ let (x, y, z) = digits-past v w i j (d .0) l k (d .4) e in absurd (omega (arith, n (omega arith) x y))

@@ -204,7 +204,8 @@ module _ (bs : Bytes) (from : ℕ) {r : CellAt} (s : CellStands bs from r) where
   bad-no-cell e z to k f = let q : A.Bad ≡ A.Value z to = sym e ∙ s .1 z to k f in clash cc
 
   -- the field goes on behind the cell that was found
-  pub longer-no-cell : (z : ℤ) (to : ℕ) → r ≡ A.Value z to → to < length bs → (getD bs to 0 ≡ tab → ⊥) → (getD bs to 0 ≡ lineFeed → ⊥) → NoCell bs from
+  pub longer-no-cell : (z : ℤ) (to : ℕ) → r ≡ A.Value z to → to < length bs → (getD bs to 0 ≡ tab → ⊥) → (getD bs to 0 ≡ lineFeed → ⊥)
+      → NoCell bs from
   longer-no-cell z to e h t l y j k f =
       let q : A.Value z to ≡ A.Value y j = sym e ∙ s .1 y j k f in
       let p : to ≡ j = cc in
@@ -214,38 +215,38 @@ cell-filled : (f : Bytes) (z : ℤ) → some z ≡ cell f → 0 < length f
 cell-filled [] z e = let q : some z ≡ none = e ∙ sym (constant-empty [] refl ∙ cell-long [] (λ t. omega arith)) in clash cc
 cell-filled (b ∷ f) z e = omega arith
 
--- in a line that ends at place e
+-- in a line that ends at place e, the field from place i on
 module _ (bs : Bytes) (i e : ℕ) (k : i ≤ e) (n : e < length bs) (l : getD bs e 0 ≡ lineFeed) where
-  abbrev stop : ℕ
-  stop = i + until tab (bytesBetween bs i e)
+  abbrev fieldEnd : ℕ
+  fieldEnd = i + until tab (bytesBetween bs i e)
 
-  stop-within : stop ≤ e
-  stop-within =
+  field-end-within : fieldEnd ≤ e
+  field-end-within =
       let h = until-within tab (bytesBetween bs i e) in
       let g = length-between bs i e (omega arith) in
       omega arith
 
-  stop-ends : FieldEnds bs stop
-  stop-ends h = by-cases (decLt stop e) (λ m. inl (there m)) (λ m. inr (last m))
+  field-end-there : FieldEnds bs fieldEnd
+  field-end-there h = by-cases (decLt fieldEnd e) (λ m. inl (there m)) (λ m. inr (last m))
     where
-      there : stop < e → getD bs stop 0 ≡ tab
+      there : fieldEnd < e → getD bs fieldEnd 0 ≡ tab
       there m =
           let g = length-between bs i e (omega arith) in
           sym (getD-take (e - i) (drop i bs) (until tab (bytesBetween bs i e)) 0 (omega arith) ∙ getD-drop i bs (until tab (bytesBetween bs i e)) 0)
           ∙ until-byte tab (bytesBetween bs i e) (omega arith)
 
-      last : (stop < e → ⊥) → getD bs stop 0 ≡ lineFeed
-      last m = let g = stop-within in let q : stop ≡ e = omega arith in rw q l
+      last : (fieldEnd < e → ⊥) → getD bs fieldEnd 0 ≡ lineFeed
+      last m = let g = field-end-within in let q : fieldEnd ≡ e = omega arith in rw q l
 
-  stop-no-cell : NoCell bs i → none ≡ cell (bytesBetween bs i stop)
-  stop-no-cell c = go (cell (bytesBetween bs i stop)) refl
+  field-end-no-cell : NoCell bs i → none ≡ cell (bytesBetween bs i fieldEnd)
+  field-end-no-cell c = go (cell (bytesBetween bs i fieldEnd)) refl
     where
-      go : (o : Option ℤ) → o ≡ cell (bytesBetween bs i stop) → none ≡ cell (bytesBetween bs i stop)
+      go : (o : Option ℤ) → o ≡ cell (bytesBetween bs i fieldEnd) → none ≡ cell (bytesBetween bs i fieldEnd)
       go none q = q
       go (some z) q =
-          let g = length-between bs i stop (omega (arith, stop-within)) in
-          let f = cell-filled (bytesBetween bs i stop) z q in
-          absurd (c z stop (omega arith, omega (arith, stop-within), q) stop-ends)
+          let g = length-between bs i fieldEnd (omega (arith, field-end-within)) in
+          let f = cell-filled (bytesBetween bs i fieldEnd) z q in
+          absurd (c z fieldEnd (omega arith, omega (arith, field-end-within), q) field-end-there)
 
   -- a line with such a field is no D line
   pub row-no-cell : (a c : ℕ) → a ≤ i → NoCell bs i → rowFrom c (readAll cell (fieldsFrom (bytesBetween bs a e) (i - a))) ≡ R.NoForm
@@ -253,10 +254,10 @@ module _ (bs : Bytes) (i e : ℕ) (k : i ≤ e) (n : e < length bs) (l : getD bs
       let p : a + (i - a) ≡ i = omega arith in
       let d : drop (i - a) (bytesBetween bs a e) ≡ bytesBetween bs i e = rw p at (between-drop bs a (i - a) e (omega arith)) in
       let w = length-between bs a e (omega arith) in
-      let u : stop - a ≡ (i - a) + until tab (drop (i - a) (bytesBetween bs a e)) = rw d (omega arith) in
-      let t : stop - a - (i - a) ≡ stop - i = omega arith in
-      row-bad (bytesBetween bs a e) c (i - a) (stop - a) (omega arith) u
-      (stop-no-cell x ∙ ap cell (sym (rw (t, d) (take-take (stop - i) (e - i) (drop i bs) (omega (arith, stop-within))))))
+      let u : fieldEnd - a ≡ (i - a) + until tab (drop (i - a) (bytesBetween bs a e)) = rw d (omega arith) in
+      let t : fieldEnd - a - (i - a) ≡ fieldEnd - i = omega arith in
+      row-bad (bytesBetween bs a e) c (i - a) (fieldEnd - a) (omega arith) u
+      (field-end-no-cell x ∙ ap cell (sym (rw (t, d) (take-take (fieldEnd - i) (e - i) (drop i bs) (omega (arith, field-end-within))))))
 
 -- ---- a D line's letter, the byte 68, and the tab behind it
 
@@ -271,8 +272,9 @@ letter-no-row [] t n e =
     let q : R.NoForm ≡ R.Row n = row-none (68 ∷ []) 2 (omega arith) ∙ line-D (68 ∷ []) 1 refl (omega arith) refl refl ∙ e in clash cc
 letter-no-row (c ∷ f) t n e =
     let w : until tab (68 ∷ c ∷ f) ≡ suc (suc (until tab f)) = rw (ne-eqb c 9 t) in
+    let z = sym (zero-add (until tab (68 ∷ c ∷ f))) in
     let h = until-within tab (68 ∷ c ∷ f) in
-    let q : R.NoForm ≡ R.Row n = ap lineRead (line-long (68 ∷ c ∷ f) (until tab (68 ∷ c ∷ f)) (sym (zero-add (until tab (68 ∷ c ∷ f)))) h (λ p. omega arith)) ∙ e in
+    let q : R.NoForm ≡ R.Row n = ap lineRead (line-long (68 ∷ c ∷ f) (until tab (68 ∷ c ∷ f)) z h (λ p. omega arith)) ∙ e in
     clash cc
 
 -- the first byte of a part of the text
