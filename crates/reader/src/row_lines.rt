@@ -11,7 +11,7 @@ ghost use Prim.Native.Nat.{_<_, _≤_};
 ghost use lib.ListN.{length, getD};
 ghost use Rattle.cells.specs.Limits.{mostBytes};
 ghost use Rattle.reader.specs.inner.CellBuffer.{LaidTo};
-ghost use Rattle.reader.specs.inner.Row.{RowStands};
+ghost use Rattle.reader.specs.inner.Row.{NoRow, RowStands};
 ghost use Rattle.reader.specs.inner.RowLines.{RowsTo};
 
 // The letter of a D line.
@@ -77,7 +77,7 @@ pub(crate) fn read_rows(
     requires { ⌜ (from ≤ length (now text)) × (length (now text) ≤ mostBytes) × (before .rows ≤ from) × (first ≤ from)
         × LaidTo (now text) from (now cells) first ⌝ }
     ensures { λ r. ⌜ RowsTo (now (text .entry)) 1 from before (r .at) (r .tables) × (r .out ≤ r .at)
-        × LaidTo (now (text .entry)) (r .at) (now (cells .exit)) (r .out) ⌝ }
+        × LaidTo (now (text .entry)) (r .at) (now (cells .exit)) (r .out) × NoRow (now (text .entry)) (r .at) ⌝ }
 {
     let columns = before.columns;
     let mut rows = before.rows;

@@ -3,7 +3,7 @@ use cells::cell::Cell;
 ghost use mathlib.Core.Path.{_≡_};
 ghost use Prim.Native.Nat.{_<_, _≤_};
 ghost use lib.ListN.{length, getD};
-ghost use Rattle.text.specs.inner.Scan.{mostMagnitude, DigitsStand, CellStands, SignAlone};
+ghost use Rattle.text.specs.inner.Scan.{mostMagnitude, DigitsStand, DigitsEnd, CellStands};
 
 // A cell, and the place behind its last byte.
 pub enum CellAt {
@@ -31,7 +31,7 @@ const MOST_MAGNITUDE: u64 = Cell::HIGHEST as u64;
 // the number would leave a cell's range.
 fn read_on(text: &[u8], from: usize, first: u64) -> Digits
     requires { ⌜ (from ≤ length (now text)) × (first ≤ mostMagnitude) ⌝ }
-    ensures { λ r. ⌜ DigitsStand (now (text .entry)) from first (r .value) (r .at) ⌝ }
+    ensures { λ r. ⌜ DigitsStand (now (text .entry)) from first (r .value) (r .at) × DigitsEnd (now (text .entry)) (r .value) (r .at) ⌝ }
 {
     let mut v = first;
     let mut i = from;
@@ -56,7 +56,7 @@ fn read_on(text: &[u8], from: usize, first: u64) -> Digits
 // A cell whose first byte is a minus sign: a number below 0, or blank. A 0 behind the sign is no part of the cell.
 fn minus_at(text: &[u8], from: usize) -> CellAt
     requires { ⌜ (from < length (now text)) × (getD (now text) from 0 ≡ 45) ⌝ }
-    ensures { λ r. ⌜ CellStands (now (text .entry)) from r × SignAlone (now (text .entry)) from r ⌝ }
+    ensures { λ r. ⌜ CellStands (now (text .entry)) from r ⌝ }
 {
     let next = from + 1;
     if text.len() <= next {

@@ -1,28 +1,26 @@
 -- The cells that the D lines of a text write are the report's: document 01, "a table's cells begin where the previous table's cells
 -- end". Assumes nothing.
 use mathlib.Core.Path.{_≡_, refl, sym, ap, _∙_}
-use mathlib.Core.Bool.{false, Bool, true}
 use mathlib.Core.List.{List, [], _∷_, _++_, append-assoc}
 use mathlib.Core.Option.{Option, none, some}
-use Prim.Native.Nat.{ℕ, suc, _≤_, zero, _+_}
+use Prim.Native.Nat.{ℕ, _≤_, _+_}
 use native.Mathlib.Decide.{ℕ-discrete}
 use native.Mathlib.Omega.{arith}
-use lib.Dec.{eqb}
 use lib.IntN.{ℤ}
-use lib.ListN.{length, take, getD, drop}
-use Rattle.cells.specs.Choice.{if_then_else_}
+use lib.ListN.{length, getD, drop}
 use Rattle.vocabulary.specs.Report.{Table}
-use Rattle.text.specs.Bytes.{Bytes, bytes, sameBytes, tab, closed, lineFeed, split}
+use Rattle.text.specs.Bytes.{Bytes, bytes, tab, closed, lineFeed, split}
 use Rattle.text.specs.Numbers.{cell}
-use Rattle.text.specs.Lines.{TableLine, tableLine, rowLine, Line, inPart, tablesPart, Form, _>>=_, end, word, numberField, formT, firstOf, joinsPart, orderPart, cellFields, formD, formJ, formC, formK, formP, lineBy, both, readAll, lineOf, linesOf}
+use Rattle.text.specs.Lines.{TableLine, tableLine, rowLine, Line, tablesPart, end, joinsPart, orderPart, cellFields, lineBy, both, readAll, lineOf, linesOf}
 use Rattle.text.specs.LineParts.{ofTables, also, picked, tableLines}
 use Rattle.text.specs.Reading.{firstRows, tablesOf, tablesIn, textLines}
 use Rattle.text.proofs.laws.ReadingLaws.{text-lines, no-early-row}
 use Rattle.text.specs.inner.Parts.{until, fieldsFrom}
-use Rattle.text.proofs.laws.RangesLaws.{differ-one}
+use Rattle.text.proofs.laws.PartsLaws.{until-within}
 use Rattle.text.proofs.laws.FormsLaws.{handed, then-handed, cellsRead, cells-read}
-use Rattle.text.specs.inner.Forms.{given, rowForm}
-use Rattle.text.proofs.laws.Letters.{chosen, first-chosen, form-none, letter-fields, line-fields, by-letter-D, line-long}
+use Rattle.text.specs.inner.Forms.{given, rowForm, lineRead}
+use Rattle.text.proofs.laws.Letters.{letter-fields, by-letter-D, line-long, line-no-row}
+use Rattle.text.specs.declared.line.LineRead.the-variants as R
 use Rattle.reader.specs.inner.LineCells.{inFront, goodCells, lineCells, linesCells, textCells}
 use Rattle.reader.proofs.laws.LineCellsLaws.{line-row, line-other}
 
@@ -70,57 +68,13 @@ lines-more x ls = go (ofTables x)
     go none = refl
     go (some y) = refl
 
-part-cells : {A : Type 0} (part : A → Line) (o : Option A) (other : Option Line) → ((x : A) → cellsAny (ofTables (part x)) ≡ [])
-    → cellsIn other ≡ [] → cellsIn (inPart part o other) ≡ []
-unfolding inPart cellsIn
-part-cells part none other h k = k
-part-cells part (some x) other h k = h x
-
-table-cells : (o : Option TableLine) (other : Option Line) → cellsAny o ≡ [] → cellsIn other ≡ [] → cellsIn (inPart tablesPart o other) ≡ []
-unfolding inPart cellsIn cellsAny ofTables
-table-cells none other h k = k
-table-cells (some x) other h k = h
-
--- the cells of the line that a form gives
-formCells : Option (TableLine × List Bytes) → List ℤ
-formCells none = []
-formCells (some r) = cellsOfLine (r .0)
-
-then-cells : {A : Type 0} (m : Form A) (f : A → Form TableLine) (fs : List Bytes) → ((a : A) (gs : List Bytes) → formCells (f a gs) ≡ [])
-    → formCells ((m >>= f) fs) ≡ []
-unfolding formCells handed
-then-cells {A} m f fs h = ap formCells (then-handed m f fs) ∙ go (m fs)
-  where
-    go : (o : Option (A × List Bytes)) → formCells (handed f o) ≡ []
-    go none = refl
-    go (some r) = h (r .0) (r .1)
-
-T-cells : (fs : List Bytes) → formCells (formT fs) ≡ []
-unfolding formT end formCells cellsOfLine
-T-cells fs = then-cells (word "T") (λ u. numberField >>= λ n. end (tableLine n)) fs
-    (λ u gs. then-cells numberField (λ n. end (tableLine n)) gs (λ n hs. ended n hs))
-  where
-    ended : (n : ℕ) (hs : List Bytes) → formCells (end (tableLine n) hs) ≡ []
-    ended n [] = refl
-    ended n (h ∷ hs) = refl
-
-first-cells : (f : Form TableLine) (rest : List (Form TableLine)) (fs : List Bytes) → formCells (f fs) ≡ []
-    → cellsAny (firstOf rest fs) ≡ [] → cellsAny (firstOf (f ∷ rest) fs) ≡ []
-unfolding cellsAny chosen formCells
-first-cells f rest fs h k = ap cellsAny (first-chosen f rest fs) ∙ go (f fs) h
-  where
-    go : (o : Option (TableLine × List Bytes)) → formCells o ≡ [] → cellsAny (chosen o (firstOf rest fs)) ≡ []
-    go none e = k
-    go (some r) e = e
-
-other-cells : (x : Bytes) (fs : List Bytes) → sameBytes x (bytes "D") ≡ false → cellsIn (lineBy (x ∷ fs)) ≡ []
-unfolding lineBy firstOf formD formCells cellsIn cellsAny ofTables
-other-cells x fs h =
-    table-cells (firstOf (formT ∷ formD ∷ []) (x ∷ fs)) _
-    (first-cells formT (formD ∷ []) (x ∷ fs) (T-cells (x ∷ fs))
-    (first-cells formD [] (x ∷ fs) (ap formCells (sym (form-none x fs "D" (λ u. cellFields >>= λ zs. end (rowLine zs)) h))) refl))
-    (part-cells joinsPart (firstOf (formJ ∷ formC ∷ formK ∷ []) (x ∷ fs)) _ (λ y. refl)
-    (part-cells orderPart (firstOf (formP ∷ []) (x ∷ fs)) none (λ y. refl) refl))
+no-row-cells : (o : Option Line) → ((n : ℕ) → lineRead o ≡ R.Row n → ⊥) → cellsIn o ≡ []
+unfolding cellsIn cellsAny cellsOfLine ofTables
+no-row-cells none h = refl
+no-row-cells (some (tablesPart (tableLine n))) h = refl
+no-row-cells (some (tablesPart (rowLine zs))) h = absurd (h (length zs) refl)
+no-row-cells (some (joinsPart x)) h = refl
+no-row-cells (some (orderPart x)) h = refl
 
 -- ---- a D line writes its cells
 
@@ -150,20 +104,6 @@ row-cells (y ∷ fs) x e =
     go none p e = absurd (never e)
     go (some zs) p e = let q : tablesPart (rowLine zs) ≡ x = cc in good-all (y ∷ fs) zs p ∙ ap (λ (l : Line). cellsAny (ofTables l)) q
 
-until-within : (separator : ℕ) (bs : Bytes) → until separator bs ≤ length bs
-unfolding until
-until-within separator [] = omega arith
-until-within separator (b ∷ bs) = go (eqb b separator) (until-within separator bs)
-  where
-    go : (t : Bool) → until separator bs ≤ length bs → (if t then 0 else suc (until separator bs)) ≤ suc (length bs)
-    go true h = omega arith
-    go false h = omega arith
-
-first-of : (n : ℕ) (l : Bytes) → getD (take n l) 0 0 ≡ 68 → getD l 0 0 ≡ 68
-first-of zero l e = absurd (omega arith)
-first-of (suc n) [] e = e
-first-of (suc n) (b ∷ l) e = e
-
 line-cells : (l : Bytes) (x : Line) → lineOf l ≡ some x → lineCells l ≡ cellsAny (ofTables x)
 unfolding lineOf cellsIn bytes
 line-cells l x e =
@@ -175,9 +115,7 @@ line-cells l x e =
             (sym (ap lineBy (letter-fields l to 68 refl h u g) ∙ by-letter-D (fieldsFrom l 2)) ∙ e)
         | no n ↦ absurd (never (line-long l to refl h n ∙ e))
       ]
-      | no g ↦ line-other l g
-          ∙ sym (sym (ap cellsIn e) ∙ ap (λ (fs : List Bytes). cellsIn (lineBy fs)) (line-fields l to refl h)
-          ∙ other-cells (take to l) (fieldsFrom l (to + 1)) (differ-one (take to l) 68 (λ q. g (first-of to l q))))
+      | no g ↦ line-other l g ∙ sym (sym (ap cellsIn e) ∙ no-row-cells (lineOf l) (line-no-row l g))
     ]
 
 -- ---- the text's cells

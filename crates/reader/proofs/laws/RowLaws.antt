@@ -6,21 +6,23 @@ use native.Mathlib.Omega.{arith}
 use lib.IntN.{ℤ}
 use lib.ListN.{take, length, drop, getD, set}
 use lib.Seq.{take-set-le}
+use Rattle.cells.proofs.laws.BoolLaws.{clash}
 use Rattle.text.specs.Bytes.{Bytes, lineFeed, tab}
 use Rattle.text.specs.Numbers.{cell}
 use Rattle.text.specs.Lines.{readAll, lineOf}
 use Rattle.text.specs.inner.Parts.{until, fieldsFrom}
+use Rattle.text.proofs.laws.PartsLaws.{until-next, until-there}
 use Rattle.text.specs.inner.Forms.{lineRead}
 use Rattle.text.proofs.laws.FormsLaws.{rowFrom}
 use Rattle.text.specs.inner.Scan.{bytesBetween, CellFound}
 use Rattle.text.proofs.laws.ScanLaws.{length-between}
-use Rattle.text.proofs.laws.ScanLines.{until-inside, line-past-letter, row-first, row-opens, line-past-tab, line-at-feed, ends-at-tab, ends-at-end, field-cell, field-inside, row-tab, row-last}
+use Rattle.text.proofs.laws.ScanLines.{NoCell, until-inside, until-cell, row-no-cell, other-no-row, untabbed-no-row, line-past-letter, row-first, row-opens, line-past-tab, line-at-feed, ends-at-tab, ends-at-end, field-cell, field-inside, row-tab, row-last}
 use Rattle.text.specs.declared.line.LineRead.the-variants as R
 use Rattle.reader.specs.inner.LineCells.{goodCells, lineCells, cellsLaid, behind}
 use Rattle.reader.proofs.laws.LineCellsLaws.{line-row, good-more, good-past, laid-stop, laid-turn, behind-stop, behind-turn}
 use Rattle.reader.specs.declared.row_lines.RowAt.{RowAt}
 use Rattle.reader.specs.declared.row_lines.RowAt.the-variants as A
-use Rattle.reader.specs.inner.Row.{lineEnd, RowFound, RowStands}
+use Rattle.reader.specs.inner.Row.{lineEnd, RowFound, NoRow, RowStands}
 
 abbrev pub lineAt : Bytes → ℕ → Bytes
 lineAt bs at = bytesBetween bs at (lineEnd bs at)
@@ -30,8 +32,33 @@ pub row-found : (bs : Bytes) (at : ℕ) (before : List ℤ) (out : ℕ) (cells :
 row-found bs at before out cells to o h e = subst (RowStands bs at before out cells) e h
 
 pub row-bad : (bs : Bytes) (at : ℕ) (before : List ℤ) (out : ℕ) (cells : List ℤ) {r : RowAt} → RowStands bs at before out cells r
-    → r ≡ A.Bad → take out cells ≡ take out before
+    → r ≡ A.Bad → (take out cells ≡ take out before) × NoRow bs at
 row-bad bs at before out cells h e = subst (RowStands bs at before out cells) e h
+
+-- ---- no closed D line
+
+module _ (bs : Bytes) (at : ℕ) where
+  pub open-no-row : length bs ≤ lineEnd bs at → NoRow bs at
+  open-no-row h k n e = omega arith
+
+  -- another letter than D, the byte 68
+  pub letter-no-row : (getD bs at 0 ≡ 68 → ⊥) → NoRow bs at
+  letter-no-row d h n e = other-no-row bs at (lineEnd bs at) d n e
+
+  module _ (h : at < length bs) (d : getD bs at 0 ≡ 68) where
+    letter-past : lineEnd bs at ≡ (at + 1) + until lineFeed (drop (at + 1) bs)
+    unfolding lineFeed
+    letter-past = until-next bs at 10 h (λ q. omega arith)
+
+    -- the text ends behind the letter
+    pub short-no-row : length bs ≤ at + 1 → NoRow bs at
+    short-no-row k = let p = letter-past in open-no-row (omega arith)
+
+    -- no tab behind the letter
+    pub tab-no-row : (getD bs (at + 1) 0 ≡ tab → ⊥) → NoRow bs at
+    tab-no-row t k n e = let p = letter-past in untabbed-no-row bs at (lineEnd bs at) (omega arith) (omega arith) d t n e
+
+-- ---- cell by cell
 
 -- Of the line at `at`, the cells of the fields before place `i` are in the cell buffer, up to place `o`: what the line is, its cells and
 -- the place behind them are told by the fields from there on.
@@ -63,6 +90,23 @@ row-start bs at cells out h d t k =
       rw (i, c),
       rw (i, c),
     )
+
+module _ (bs : Bytes) (at : ℕ) (before : List ℤ) (out i : ℕ) (cells : List ℤ) (o : ℕ) (r : RowTo bs at before out i cells o) where
+  -- the text ends before the next field
+  pub end-no-row : length bs ≤ i → NoRow bs at
+  end-no-row h = open-no-row bs at (omega (arith, r .5))
+
+  -- the text ends behind a cell
+  pub last-no-row : (z : ℤ) (to : ℕ) → CellFound bs i z to → length bs ≤ to → NoRow bs at
+  unfolding lineFeed
+  last-no-row z to k h = open-no-row bs at (omega (arith, r .5, until-cell bs i to z k 10 (omega arith)))
+
+  -- the next field is no cell
+  pub cell-no-row : NoCell bs i → NoRow bs at
+  cell-no-row c h n e =
+      let q : R.NoForm ≡ R.Row n =
+      sym (row-no-cell bs i (lineEnd bs at) (omega (arith, r .5)) h (until-there bs at lineFeed h) at (o - out) (omega (arith, r .0)) c) ∙ r .6 ∙ e in
+      clash cc
 
 -- a cell more leaves what stands before the line's cells
 pub row-front : (bs : Bytes) (at : ℕ) (before : List ℤ) (out i : ℕ) (cells : List ℤ) (o : ℕ) → RowTo bs at before out i cells o

@@ -25,7 +25,11 @@ RowFound bs at before out cells to o =
     (at ≤ to) × (to < length bs) × (out ≤ o) × (o ≤ to + 1) × (to ≡ lineEnd bs at) × (R.Row (o - out) ≡ lineRead (lineOf (bytesBetween bs at to)))
     × (cells ≡ cellsLaid before out (lineCells (bytesBetween bs at to))) × (o ≡ behind out (lineCells (bytesBetween bs at to)))
 
--- What an answer says. "Bad" says only that the cell buffer is as it was before place `out`.
+-- No closed D line begins at a place: the line there is no D line, or no line feed closes it. At the text's end there is no line.
+abbrev pub NoRow : Bytes → ℕ → Type 0
+NoRow bs at = lineEnd bs at < length bs → (n : ℕ) → lineRead (lineOf (bytesBetween bs at (lineEnd bs at))) ≡ R.Row n → ⊥
+
+-- What an answer says. "Bad" says that the cell buffer is as it was before place `out`, and that no closed D line begins at `at`.
 abbrev pub RowStands : Bytes → ℕ → List ℤ → ℕ → List ℤ → RowAt → Type 0
 RowStands bs at before out cells (A.Value to o) = RowFound bs at before out cells to o
-RowStands bs at before out cells A.Bad = take out cells ≡ take out before
+RowStands bs at before out cells A.Bad = (take out cells ≡ take out before) × NoRow bs at

@@ -1,19 +1,20 @@
 -- A number read digit by digit, up to a limit, is `natural`'s where that is within the limit; and a number of at most 4 digits is `small`'s.
 -- Assumes nothing.
-use mathlib.Core.Path.{_≡_, refl, sym, _∙_}
+use mathlib.Core.Path.{_≡_, refl, sym, ap, _∙_}
 use mathlib.Core.Bool.{Bool, true, false, _&&_, and-true, not}
-use mathlib.Core.List.{[], _∷_, foldl}
+use mathlib.Core.List.{[], _∷_, foldl, _++_}
+use mathlib.Core.Logic.{_⊎_, inl, inr}
 use mathlib.Core.Option.{Option, none, some}
 use Prim.Native.Nat.{ℕ, _+_, _*_, _-_, _≤_, _<_, zero, suc}
-use native.Mathlib.Nat.{le-refl, le-trans}
+use native.Mathlib.Nat.{le-refl, le-trans, zero-add}
 use native.Mathlib.Numerals.{add-one}
 use native.Mathlib.Omega.{arith}
 use lib.Dec.{eqb, leb, ltb}
 use lib.ListN.{length, drop, getD, drop-of-length-le}
 use lib.Seq.{drop-cons}
-use borrow.Author.Tests.{le-leb, lt-leb, ltb-true, ltb-false, eqb-true, lt-ltb, le-ltb, eq-eqb, ne-eqb, leb-true}
+use borrow.Author.Tests.{le-leb, lt-leb, ltb-true, ltb-false, eqb-true, eqb-false, lt-ltb, le-ltb, eq-eqb, ne-eqb, leb-true}
 use Rattle.cells.specs.Choice.{if_then_else_}
-use Rattle.cells.proofs.laws.BoolLaws.{both-left, both-right}
+use Rattle.cells.proofs.laws.BoolLaws.{both-left, both-right, clash}
 use Rattle.rows.specs.Lists.{all}
 use Rattle.text.specs.Bytes.{Bytes}
 use Rattle.text.specs.Numbers.{digit, decimal, valueOf, natural, small}
@@ -94,6 +95,45 @@ number-same limit (b ∷ c ∷ f) = go (eqb b 48) refl
     go : (t : Bool) → eqb b 48 ≡ t → numberFrom limit (b ∷ c ∷ f) ≡ atMost limit (natural (b ∷ c ∷ f))
     go true e = rw e
     go false e = rw (e, digits-same limit 0 (b ∷ c ∷ f) (omega arith)) (chosen limit 0 (b ∷ c ∷ f) (all digit (b ∷ c ∷ f)))
+
+-- ---- the digits of a number that there is
+
+-- the first of them is a digit, and the number with it is within the limit
+pub digits-first : (limit v w b : ℕ) (f : Bytes) → digitsFrom limit v (b ∷ f) ≡ some w
+    → (48 ≤ b) × (b ≤ 57) × (nextValue v b ≤ limit) × (digitsFrom limit (nextValue v b) f ≡ some w)
+unfolding digitsFrom
+digits-first limit v w b f e = go (ltb b 48) refl (ltb 57 b) refl (ltb limit (nextValue v b)) refl e
+  where
+    go : (s : Bool) → ltb b 48 ≡ s → (t : Bool) → ltb 57 b ≡ t → (u : Bool) → ltb limit (nextValue v b) ≡ u
+        → _≡_ {A = Option ℕ} (if s then none else if t then none else if u then none else digitsFrom limit (nextValue v b) f) (some w)
+        → (48 ≤ b) × (b ≤ 57) × (nextValue v b ≤ limit) × (digitsFrom limit (nextValue v b) f ≡ some w)
+    go true s t p u q e = clash cc
+    go false s true p u q e = clash cc
+    go false s false p true q e = clash cc
+    go false s false p false q e = (ltb-false b 48 s, ltb-false 57 b p, ltb-false limit (nextValue v b) q, e)
+
+-- digits behind them
+pub digits-append : (limit v w : ℕ) (f g : Bytes) → digitsFrom limit v f ≡ some w → digitsFrom limit v (f ++ g) ≡ digitsFrom limit w g
+unfolding digitsFrom
+digits-append limit v w [] g e = let q : v ≡ w = cc in rw q
+digits-append limit v w (b ∷ f) g e =
+    let (l, m, o, r) = digits-first limit v w b f e in
+    rw (le-ltb b 48 l, le-ltb 57 b m, le-ltb limit (nextValue v b) o) (digits-append limit (nextValue v b) w f g r)
+
+-- a number within the limit is 0 itself, or its first digit is not 0
+pub natural-first : (limit v b : ℕ) (f : Bytes) → natural (b ∷ f) ≡ some v → v ≤ limit
+    → ((b ≡ 48) × (f ≡ []) × (v ≡ 0)) ⊎ ((48 < b) × (b ≤ 57) × (digitsFrom limit (b - 48) f ≡ some v))
+unfolding numberFrom afterZero
+natural-first limit v b f e h = go (eqb b 48) refl f (number-same limit (b ∷ f) ∙ ap (atMost limit) e ∙ within limit v h)
+  where
+    go : (t : Bool) → eqb b 48 ≡ t → (f : Bytes) → _≡_ {A = Option ℕ} (if t then afterZero f else digitsFrom limit 0 (b ∷ f)) (some v)
+        → ((b ≡ 48) × (f ≡ []) × (v ≡ 0)) ⊎ ((48 < b) × (b ≤ 57) × (digitsFrom limit (b - 48) f ≡ some v))
+    go true q [] e = inl (eqb-true b 48 q, refl, cc)
+    go true q (c ∷ f) e = clash cc
+    go false q f e =
+        let (l, m, o, r) = digits-first limit 0 v b f e in
+        let n : b ≡ 48 → ⊥ = eqb-false b 48 q in
+        inr (omega arith, m, sym (ap (λ (x : ℕ). digitsFrom limit x f) (zero-add (b - 48))) ∙ r)
 
 -- ---- the digits from a place on
 

@@ -1,5 +1,5 @@
 -- A line by its letter, and a line that no letter opens. Assumes nothing.
-use mathlib.Core.Path.{_≡_, _∙_, refl, sym, ap}
+use mathlib.Core.Path.{_≡_, _∙_, refl, sym, ap, subst}
 use mathlib.Core.Bool.{false}
 use mathlib.Core.List.{[], _∷_, List}
 use mathlib.Core.Option.{Option, none, some}
@@ -8,15 +8,16 @@ use Prim.Native.String.{String}
 use native.Mathlib.Omega.{arith}
 use lib.ListN.{length, getD, take, drop}
 use lib.Seq.{getD-take, length-take-le}
+use Rattle.cells.proofs.laws.BoolLaws.{clash}
 use Rattle.text.specs.Bytes.{Bytes, tab, split, bytes, sameBytes}
-use Rattle.text.specs.Lines.{Line, inPart, tablesPart, joinsPart, orderPart, field, oneOf, word, formT, formD, formJ, formC, formK, formP, firstOf, lineBy, lineOf, Form, _>>=_}
+use Rattle.text.specs.Lines.{TableLine, tableLine, JoinLine, joinLine, conditionLine, OrderLine, orderLine, rowLine, numberField, cellFields, end, Line, inPart, tablesPart, joinsPart, orderPart, field, oneOf, word, formT, formD, formJ, formC, formK, formP, firstOf, lineBy, lineOf, Form, _>>=_}
 use Rattle.text.specs.inner.Parts.{until, fieldsFrom}
-use Rattle.text.proofs.laws.PartsLaws.{field-here, fields-all}
+use Rattle.text.proofs.laws.PartsLaws.{field-here, fields-all, until-within, take-first}
 use Rattle.text.proofs.laws.RangesLaws.{differ-one, differ-length}
 use Rattle.text.proofs.laws.FieldsLaws.{fieldOf, field-cons}
 use Rattle.text.specs.declared.line.LineRead.the-variants as R
 use Rattle.text.specs.inner.Forms.{given, tableForm, rowForm, joinForm, columnForm, constantForm, orderForm, lineRead, formRead}
-use Rattle.text.proofs.laws.FormsLaws.{then-none}
+use Rattle.text.proofs.laws.FormsLaws.{handed, then-handed, then-none}
 
 -- the fields of a line whose first field is one byte
 pub letter-fields : (l : Bytes) (to b : ℕ) → to ≡ 0 + until tab (drop 0 l) → to ≤ length l → to ≡ 1 → getD l 0 0 ≡ b
@@ -150,3 +151,63 @@ module _ (l : Bytes) (to : ℕ) (e : to ≡ 0 + until tab (drop 0 l)) (h : to �
       λ w n. differ-one (take to l) w (λ q. n (sym g ∙ q)) in
       ap lineRead (no-letter (take to l) (fieldsFrom l (to + 1)) (at 84 t) (at 68 d) (at 74 j) (at 67 c) (at 75 k) (at 80 p)
       ∙ sym (ap lineBy line-fields))
+
+-- ---- a line that no D opens is no D line
+
+-- what holds of every value of a form, and of none
+then-every : {A B : Type 0} (P : Option (B × List Bytes) → Type 0) (m : Form A) (f : A → Form B) (fs : List Bytes)
+    → P none → ((a : A) (gs : List Bytes) → P (f a gs)) → P ((m >>= f) fs)
+unfolding handed
+then-every {A} P m f fs h k = subst P (sym (then-handed m f fs)) (go (m fs))
+  where
+    go : (o : Option (A × List Bytes)) → P (handed f o)
+    go none = h
+    go (some r) = k (r .0) (r .1)
+
+abbrev NotRow : Option Line → Type 0
+NotRow o = (n : ℕ) → lineRead o ≡ R.Row n → ⊥
+
+table-not-row : (fs : List Bytes) → NotRow (given tablesPart (formT fs))
+unfolding formT end
+table-not-row fs =
+    then-every (λ o. NotRow (given tablesPart o)) (word "T") (λ u. numberField >>= λ c. end (tableLine c)) fs (λ n e. clash cc)
+    (λ u gs. then-every (λ o. NotRow (given tablesPart o)) numberField (λ c. end (tableLine c)) gs (λ n e. clash cc) (λ c hs. ended c hs))
+  where
+    ended : (c : ℕ) (hs : List Bytes) → NotRow (given tablesPart (end (tableLine c) hs))
+    ended c [] n e = clash cc
+    ended c (h ∷ hs) n e = clash cc
+
+tables-not-row : (o : Option (TableLine × List Bytes)) (other : Option Line) → NotRow (given tablesPart o) → NotRow other
+    → NotRow (inPart tablesPart (chosen o none) other)
+unfolding inPart chosen
+tables-not-row none other h k = k
+tables-not-row (some r) other h k = h
+
+joins-not-row : (o : Option JoinLine) (other : Option Line) → NotRow other → NotRow (inPart joinsPart o other)
+unfolding inPart
+joins-not-row none other k n e = k n e
+joins-not-row (some (joinLine j l r)) other k n e = clash cc
+joins-not-row (some (conditionLine c)) other k n e = clash cc
+
+order-not-row : (o : Option OrderLine) → NotRow (inPart orderPart o none)
+unfolding inPart
+order-not-row none n e = clash cc
+order-not-row (some (orderLine l r)) n e = clash cc
+
+other-row : (x : Bytes) (fs : List Bytes) → sameBytes x (bytes "D") ≡ false → NotRow (lineBy (x ∷ fs))
+unfolding lineBy firstOf formD chosen
+other-row x fs h =
+    let d : none ≡ firstOf (formD ∷ []) (x ∷ fs) =
+    first-none formD [] (x ∷ fs) (form-none x fs "D" (λ u. cellFields >>= λ zs. end (rowLine zs)) h) refl in
+    let t : firstOf (formT ∷ formD ∷ []) (x ∷ fs) ≡ chosen (formT (x ∷ fs)) none = first-chosen formT (formD ∷ []) (x ∷ fs) ∙ rw d in
+    rw t
+    (tables-not-row (formT (x ∷ fs)) _ (table-not-row (x ∷ fs))
+    (joins-not-row (firstOf (formJ ∷ formC ∷ formK ∷ []) (x ∷ fs)) _ (order-not-row (firstOf (formP ∷ []) (x ∷ fs)))))
+
+pub line-no-row : (l : Bytes) → (getD l 0 0 ≡ 68 → ⊥) → (n : ℕ) → lineRead (lineOf l) ≡ R.Row n → ⊥
+unfolding lineOf bytes
+line-no-row l g n e =
+    let to : ℕ = 0 + until tab (drop 0 l) in
+    let h : to ≤ length l = omega (arith, until-within tab (drop 0 l)) in
+    other-row (take to l) (fieldsFrom l (to + 1)) (differ-one (take to l) 68 (λ q. g (take-first to l 68 (omega arith) q))) n
+    (sym (ap (λ (fs : List Bytes). lineRead (lineBy fs)) (line-fields l to refl h)) ∙ e)

@@ -1,16 +1,16 @@
 -- Laws of places in a text: the fields and lines that are left from a place on are those that `split` cuts. Assumes nothing.
-use mathlib.Core.Path.{_≡_, refl, _∙_}
+use mathlib.Core.Path.{_≡_, refl, sym, _∙_}
 use mathlib.Core.Bool.{Bool, true, false}
 use mathlib.Core.List.{List, [], _∷_}
 use mathlib.Core.Option.{Option, none, some}
-use Prim.Native.Nat.{ℕ, _+_, _<_, _≤_, suc, _-_}
+use Prim.Native.Nat.{ℕ, _+_, _<_, _≤_, suc, _-_, zero}
 use native.Mathlib.Nat.{add-zero}
 use native.Mathlib.Numerals.{add-one}
 use native.Mathlib.Omega.{arith}
 use lib.Dec.{eqb, leb}
 use lib.ListN.{length, drop, getD, drop-of-length-le, take, length-drop, length-take}
-use lib.Seq.{drop-cons, drop-drop}
-use borrow.Author.Tests.{eq-eqb, ne-eqb, le-leb, leb-true, leb-false, lt-leb}
+use lib.Seq.{drop-cons, drop-drop, getD-drop}
+use borrow.Author.Tests.{eqb-true, eq-eqb, ne-eqb, le-leb, leb-true, leb-false, lt-leb}
 use Rattle.cells.specs.Choice.{if_then_else_}
 use Rattle.text.specs.Bytes.{Bytes, split, cut, tab, lineFeed, closed}
 use Rattle.text.specs.inner.Parts.{until, fieldsFrom, linesFrom}
@@ -40,6 +40,38 @@ module _ (s : Bytes) (i separator : ℕ) where
   pub until-end : length s ≤ i → i + until separator (drop i s) ≡ i
   unfolding until
   until-end h = rw (drop-of-length-le s h) (add-zero i)
+
+-- ---- how long the first part is
+
+pub until-within : (separator : ℕ) (bs : Bytes) → until separator bs ≤ length bs
+unfolding until
+until-within separator [] = omega arith
+until-within separator (b ∷ bs) = go (eqb b separator) (until-within separator bs)
+  where
+    go : (t : Bool) → until separator bs ≤ length bs → (if t then 0 else suc (until separator bs)) ≤ suc (length bs)
+    go true h = omega arith
+    go false h = omega arith
+
+-- behind it stands the separator, if anything does
+pub until-byte : (separator : ℕ) (bs : Bytes) → until separator bs < length bs → getD bs (until separator bs) 0 ≡ separator
+unfolding until
+until-byte separator [] h = absurd (omega arith)
+until-byte separator (b ∷ bs) h = go (eqb b separator) refl (λ k. until-byte separator bs k) h
+  where
+    go : (t : Bool) → eqb b separator ≡ t → (until separator bs < length bs → getD bs (until separator bs) 0 ≡ separator)
+        → (if t then 0 else suc (until separator bs)) < suc (length bs) → getD (b ∷ bs) (if t then 0 else suc (until separator bs)) 0 ≡ separator
+    go true e ih h = eqb-true b separator e
+    go false e ih h = ih (omega arith)
+
+pub until-there : (s : Bytes) (i separator : ℕ) → i + until separator (drop i s) < length s → getD s (i + until separator (drop i s)) 0 ≡ separator
+until-there s i separator h =
+    sym (getD-drop i s (until separator (drop i s)) 0) ∙ until-byte separator (drop i s) (rw (length-drop i s) (omega arith))
+
+-- a first byte of a part is that of the whole
+pub take-first : (n : ℕ) (l : Bytes) (b : ℕ) → 0 < b → getD (take n l) 0 0 ≡ b → getD l 0 0 ≡ b
+take-first zero l b h e = absurd (omega arith)
+take-first (suc n) [] b h e = e
+take-first (suc n) (x ∷ l) b h e = e
 
 -- ---- the first part, and those after it
 

@@ -12,6 +12,7 @@ use lib.ListN.{length, getD, take, drop}
 use borrow.Author.Tests.{leb-false, eq-eqb, ne-eqb, leb-true}
 use Rattle.cells.specs.Choice.{if_then_else_}
 use Rattle.cells.specs.Cell.{cellOf, blankCell}
+use Rattle.cells.proofs.laws.BoolLaws.{clash}
 use Rattle.cells.proofs.laws.CellLaws.{positive-outside, negative-outside, positive-within, negative-within}
 use Rattle.cells.specs.declared.cell.Made.{Made}
 use Rattle.cells.specs.declared.cell.Made.the-variants.{OutOfRange, Value}
@@ -149,25 +150,37 @@ outside-none : {z : ℤ} {m : Made} → some z ≡ ifMade m → m ≡ OutOfRange
 unfolding ifMade
 outside-none {z} e h = let g : _≡_ {A = Option ℤ} (some z) none = rw h at e in let k : _≡_ {A = ℕ} 0 1 = cc in omega arith
 
-made-fits : (w z : ℤ) → some z ≡ ifMade (cellOf w) → mag z < 2147483648
-made-fits (pos a) z e = go (leb a 2147483647) refl
+-- a number that has a cell is of a cell's magnitude, and the cell is that number
+positive-made : (a : ℕ) (z : ℤ) → some z ≡ ifMade (cellOf (pos a)) → (a ≤ 2147483647) × (z ≡ pos a)
+positive-made a z e = go (leb a 2147483647) refl
   where
-    go : (t : Bool) → leb a 2147483647 ≡ t → mag z < 2147483648
-    go true l =
-        let h : a ≤ 2147483647 = leb-true a 2147483647 l in
-        let k : mag z ≡ a = ap mag (value-fits e (positive-within a h)) in
-        omega arith
+    go : (t : Bool) → leb a 2147483647 ≡ t → (a ≤ 2147483647) × (z ≡ pos a)
+    go true l = let h = leb-true a 2147483647 l in (h, value-fits e (positive-within a h))
     go false l = absurd (outside-none e (positive-outside a (leb-false a 2147483647 l)))
-made-fits (negsuc a) z e = go (leb a 2147483646) refl
+
+negative-made : (a : ℕ) (z : ℤ) → some z ≡ ifMade (cellOf (negℤ (pos a))) → (a ≤ 2147483647) × (z ≡ negℤ (pos a))
+negative-made a z e = go (leb a 2147483647) refl
   where
-    go : (t : Bool) → leb a 2147483646 ≡ t → mag z < 2147483648
-    go true l =
-        let h : a ≤ 2147483646 = leb-true a 2147483646 l in
-        let k : mag z ≡ a = ap mag (value-fits e (negative-within (suc a) (omega arith))) in
-        omega arith
-    go false l =
-        let h : 2147483646 < a = leb-false a 2147483646 l in
-        absurd (outside-none e (negative-outside (suc a) (omega arith)))
+    go : (t : Bool) → leb a 2147483647 ≡ t → (a ≤ 2147483647) × (z ≡ negℤ (pos a))
+    go true l = let h = leb-true a 2147483647 l in (h, value-fits e (negative-within a h))
+    go false l = absurd (outside-none e (negative-outside a (leb-false a 2147483647 l)))
+
+made-fits : (w z : ℤ) → some z ≡ ifMade (cellOf w) → mag z < 2147483648
+made-fits (pos a) z e = let (h, q) = positive-made a z e in let k : mag z ≡ a = ap mag q in omega arith
+made-fits (negsuc a) z e = let (h, q) = negative-made (suc a) z e in let k : mag z ≡ a = ap mag q in omega arith
+
+-- what has a cell is a number; behind a minus sign it is not 0
+pub positive-some : (o : Option ℕ) (z : ℤ) → some z ≡ withinRange (positive o) → (v : ℕ) × (o ≡ some v) × (v ≤ 2147483647) × (z ≡ pos v)
+unfolding withinRange positive
+positive-some none z e = clash cc
+positive-some (some v) z e = let (h, q) = positive-made v z e in (v, refl, h, q)
+
+pub negative-some : (o : Option ℕ) (z : ℤ) → some z ≡ withinRange (negative o)
+    → (v : ℕ) × (o ≡ some v) × (0 < v) × (v ≤ 2147483647) × (z ≡ negℤ (pos v))
+unfolding withinRange negative
+negative-some none z e = clash cc
+negative-some (some zero) z e = clash cc
+negative-some (some (suc n)) z e = let (h, q) = negative-made (suc n) z e in (suc n, refl, omega arith, h, q)
 
 ranged-fits : (o : Option ℤ) (z : ℤ) → some z ≡ withinRange o → mag z < 2147483648
 unfolding withinRange

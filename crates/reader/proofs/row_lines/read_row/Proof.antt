@@ -7,8 +7,8 @@ use borrow.Author.Needs.{needs}
 use Rattle.cells.specs.Limits.{mostBytes}
 use Rattle.cells.proofs.Ints.{back}
 use Rattle.text.specs.Bytes.{tab, lineFeed}
-use Rattle.text.proofs.laws.ScanLines.{cell-found, found-fits}
-use Rattle.reader.proofs.laws.RowLaws.{RowTo, row-start, row-front, row-turn, row-done}
+use Rattle.text.proofs.laws.ScanLines.{cell-found, found-fits, bad-no-cell, longer-no-cell}
+use Rattle.reader.proofs.laws.RowLaws.{RowTo, short-no-row, tab-no-row, end-no-row, last-no-row, cell-no-row, row-start, row-front, row-turn, row-done}
 use Rattle.reader.proofs.row_lines.read_row.Statement.{statement}
 use Rattle.reader.proofs.row_lines.read_row.Tie as tie
 
@@ -23,13 +23,14 @@ add-tab : tie.Need-add-tab Inv-loop μ-loop
 add-tab c = search needs
 
 returns : tie.Need-returns Inv-loop μ-loop
-returns c = refl
+returns c = let p = c .before .before .pre in (refl, short-no-row _ _ (p .1) (p .2) (c .if1 .taken))
 
 shared-slice-read-if2 : tie.Need-shared-slice-read-if2 Inv-loop μ-loop
 shared-slice-read-if2 c = search needs
 
 returns-2 : tie.Need-returns-2 Inv-loop μ-loop
-returns-2 c = refl
+unfolding tab
+returns-2 c = let p = c .before .before .before .before .pre in (refl, tab-no-row _ _ (p .1) (p .2) (c .if2 .taken))
 
 add-i : tie.Need-add-i Inv-loop μ-loop
 add-i c = search needs
@@ -54,13 +55,20 @@ same-length : tie.Need-same-length Inv-loop μ-loop
 same-length c = c .before .before .before .before .loop .inv .1
 
 returns-3 : tie.Need-returns-3 Inv-loop μ-loop
-returns-3 c = c .before .before .before .before .loop .inv .2 .4
+returns-3 c =
+    let p = c .before .before in
+    let r = p .before .before .loop .inv .2 in
+    (r .4, cell-no-row _ _ _ _ _ _ _ r (bad-no-cell _ _ (p .cell-at .ensures) (c .enum-told .given .1)))
 
 same-length-2 : tie.Need-same-length-2 Inv-loop μ-loop
 same-length-2 c = c .before .before .before .before .before .before .loop .inv .1
 
 returns-4 : tie.Need-returns-4 Inv-loop μ-loop
-returns-4 c = c .before .before .before .before .before .before .loop .inv .2 .4
+returns-4 c =
+    let x = c .before .before in
+    let p = x .before .before in
+    let r = p .before .before .loop .inv .2 in
+    (r .4, last-no-row _ _ _ _ _ _ _ r _ _ (cell-found _ _ _ _ (p .cell-at .ensures) (x .c .given .1)) (c .if3 .taken))
 
 put-requires : tie.Need-put-requires Inv-loop μ-loop
 put-requires c κs = search needs
@@ -93,10 +101,17 @@ same-length-4 : tie.Need-same-length-4 Inv-loop μ-loop
 same-length-4 c = search needs
 
 returns-6 : tie.Need-returns-6 Inv-loop μ-loop
+unfolding tab lineFeed
 returns-6 c =
-    let q = c .before .before .before .before .before in
-    let d = q .before .before .before .before .before .before .before .before in
-    row-front _ _ _ _ _ _ _ (d .loop .inv .2) _ (q .put .ensures)
+    let f = c .before .before in
+    let q = f .before .before .before in
+    let h = q .before .before in
+    let x = h .before .before in
+    let p = x .before .before in
+    let r = p .before .before .loop .inv .2 in (
+      row-front _ _ _ _ _ _ _ r _ (q .put .ensures),
+      cell-no-row _ _ _ _ _ _ _ r (longer-no-cell _ _ (p .cell-at .ensures) _ _ (x .c .given .1) (h .if3 .left) (c .if5 .taken) (f .if4 .left)),
+    )
 
 add-i-2 : tie.Need-add-i-2 Inv-loop μ-loop
 add-i-2 c = search needs
@@ -125,7 +140,7 @@ same-length-5 : tie.Need-same-length-5 Inv-loop μ-loop
 same-length-5 c = c .before .loop .inv .1
 
 returns-7 : tie.Need-returns-7 Inv-loop μ-loop
-returns-7 c = c .before .loop .inv .2 .4
+returns-7 c = let r = c .before .loop .inv .2 in (r .4, end-no-row _ _ _ _ _ _ _ r (c .loop-test .left))
 
 pub read-row-spec : {M : Type 1} → statement M
 read-row-spec =

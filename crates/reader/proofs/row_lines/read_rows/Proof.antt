@@ -8,7 +8,7 @@ use Rattle.cells.specs.Limits.{mostBytes}
 use Rattle.reader.specs.inner.CellBuffer.{LaidTo}
 use Rattle.reader.proofs.laws.CellBufferLaws.{laid-line, laid-same}
 use Rattle.reader.specs.inner.State.{withTableCounts}
-use Rattle.reader.proofs.laws.RowLaws.{row-found, row-bad}
+use Rattle.reader.proofs.laws.RowLaws.{row-found, row-bad, letter-no-row, open-no-row}
 use Rattle.reader.specs.inner.RowLines.{RowsTo}
 use Rattle.reader.proofs.laws.RowLinesLaws.{rows-none, rows-more, rows-put}
 use Rattle.reader.proofs.row_lines.read_rows.Statement.{statement}
@@ -37,7 +37,7 @@ same-length c = c .before .before .before .before .loop .inv .1
 returns : tie.Need-returns Inv-loop μ-loop
 returns c =
     let i = c .before .before .before .before .loop .inv in
-    (rows-put _ _ _ _ _ (i .3) (c .with-counts .ensures), i .2, i .4)
+    (rows-put _ _ _ _ _ (i .3) (c .with-counts .ensures), i .2, i .4, letter-no-row _ _ (c .before .if1 .taken))
 
 read-row-requires : tie.Need-read-row-requires Inv-loop μ-loop
 read-row-requires c κs = search needs
@@ -60,7 +60,7 @@ returns-2 c =
     let q = e .before .before .before in
     let i = q .before .before .before .before .before .loop .inv in
     let b = row-bad _ _ _ _ _ (q .read-row .ensures) (e .enum-told .given .1) in
-    (rows-put _ _ _ _ _ (i .3) (c .with-counts2 .ensures), i .2, laid-same _ _ _ _ (i .4) (search needs) b)
+    (rows-put _ _ _ _ _ (i .3) (c .with-counts2 .ensures), i .2, laid-same _ _ _ _ (i .4) (search needs) (b .0), b .1)
 
 sub-n : tie.Need-sub-n Inv-loop μ-loop
 sub-n c =
@@ -115,7 +115,7 @@ same-length-3 c = c .before .before .loop .inv .1
 returns-3 : tie.Need-returns-3 Inv-loop μ-loop
 returns-3 c =
     let i = c .before .before .loop .inv in
-    (rows-put _ _ _ _ _ (i .3) (c .with-counts3 .ensures), i .2, i .4)
+    (rows-put _ _ _ _ _ (i .3) (c .with-counts3 .ensures), i .2, i .4, open-no-row _ _ (omega (arith, c .before .loop-test .left)))
 
 pub read-rows-spec : {M : Type 1} → statement M
 read-rows-spec =

@@ -1,12 +1,13 @@
 -- `text::scan::cell_at` meets its contract: by the first byte, 0, a minus sign, or a digit before digits. Assumes nothing.
+use native.Mathlib.Omega.{arith}
 use borrow.Author.Needs.{needs}
 use Rattle.cells.proofs.Ints.{small-pos}
-use Rattle.text.proofs.laws.ScanLaws.{found-zero, found-digits}
+use Rattle.text.proofs.laws.ScanLaws.{found-zero, found-digits, answered-past, answered-none, answered-zero, answered-digits}
 use Rattle.text.proofs.scan.cell_at.Statement.{statement}
 use Rattle.text.proofs.scan.cell_at.Tie as tie
 
 returns : tie.Need-returns
-returns c = search needs
+returns c = (tt, answered-past _ _ _ (c .if1 .taken))
 
 shared-slice-read-b : tie.Need-shared-slice-read-b
 shared-slice-read-b c = search needs
@@ -15,19 +16,19 @@ add-t10 : tie.Need-add-t10
 add-t10 c = search needs
 
 returns-2 : tie.Need-returns-2
-returns-2 c = found-zero _ _ (c .before .before .before .if1 .left) (c .if3 .taken)
+returns-2 c = (found-zero _ _ (c .before .before .before .if1 .left) (c .if3 .taken), answered-zero _ _ (c .if3 .taken))
 
 minus-at-requires : tie.Need-minus-at-requires
 minus-at-requires c κs = search needs
 
 returns-3 : tie.Need-returns-3
-returns-3 c = c .minus-at .ensures .0
+returns-3 c = c .minus-at .ensures
 
 returns-4 : tie.Need-returns-4
-returns-4 c = search needs
+returns-4 c = (tt, answered-none _ _ _ (c .if4 .left) (λ l. absurd (omega (arith, l, c .before .if3 .left, c .before .before .if2 .taken))))
 
 returns-5 : tie.Need-returns-5
-returns-5 c = search needs
+returns-5 c = (tt, answered-none _ _ _ (λ e. omega (arith, e, c .if5 .taken)) (λ l. c .if5 .taken))
 
 add-read-on : tie.Need-add-read-on
 add-read-on c = search needs
@@ -47,8 +48,11 @@ cast-t12 c = search needs
 returns-6 : tie.Need-returns-6
 returns-6 c =
     let b = c .before .before in
-    let d = c .before .read-on .ensures in
-    rw (small-pos _ (d .3)) (found-digits _ _ (b .before .before .before .if1 .left) _ _ (b .before .if2 .left) (b .if5 .left) d)
+    let (d, e) = c .before .read-on .ensures in
+    rw (small-pos _ (d .3)) (
+      found-digits _ _ (b .before .before .before .if1 .left) _ _ (b .before .if2 .left) (b .if5 .left) d,
+      answered-digits _ _ (b .before .if2 .left) (b .if5 .left) _ _ d e,
+    )
 
 pub cell-at-spec : {M : Type 1} → statement M
 cell-at-spec =

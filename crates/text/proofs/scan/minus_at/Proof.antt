@@ -6,7 +6,7 @@ use lib.IntN.{pos, _-ℤ_}
 use borrow.Author.Needs.{needs}
 use Rattle.cells.specs.Cell.{blankCell}
 use Rattle.cells.proofs.Ints.{small-pos, neg-fits, neg-is}
-use Rattle.text.proofs.laws.ScanLaws.{found-blank, found-minus}
+use Rattle.text.proofs.laws.ScanLaws.{found-blank, found-minus, answered-blank, answered-minus}
 use Rattle.text.proofs.scan.minus_at.Statement.{statement}
 use Rattle.text.proofs.scan.minus_at.Tie as tie
 
@@ -15,18 +15,20 @@ add-next c = search needs
 
 returns : tie.Need-returns
 unfolding blankCell
-returns c = let s = c .before .before in (found-blank _ _ (s .pre .0) (s .pre .1), λ e h k. absurd (omega (arith, h, c .if1 .taken)))
+returns c = let s = c .before .before in (found-blank _ _ (s .pre .0) (s .pre .1), answered-blank _ _ (s .pre .1) (λ h l. absurd (omega (arith, h, c .if1 .taken))))
 
 shared-slice-read-d : tie.Need-shared-slice-read-d
 shared-slice-read-d c = search needs
 
 returns-2 : tie.Need-returns-2
 unfolding blankCell
-returns-2 c = let s = c .before .before .before .before in (found-blank _ _ (s .pre .0) (s .pre .1), λ e h k. absurd (omega (arith, k, c .if2 .taken)))
+returns-2 c =
+    let s = c .before .before .before .before in
+    (found-blank _ _ (s .pre .0) (s .pre .1), answered-blank _ _ (s .pre .1) (λ h l. absurd (omega (arith, l, c .if2 .taken))))
 
 returns-3 : tie.Need-returns-3
 unfolding blankCell
-returns-3 c = let s = c .before .before .before .before .before in (found-blank _ _ (s .pre .0) (s .pre .1), λ e h k. c .if3 .taken)
+returns-3 c = let s = c .before .before .before .before .before in (found-blank _ _ (s .pre .0) (s .pre .1), answered-blank _ _ (s .pre .1) (λ h l. c .if3 .taken))
 
 add-read-on : tie.Need-add-read-on
 add-read-on c = search needs
@@ -44,17 +46,17 @@ cast-t11 : tie.Need-cast-t11
 cast-t11 c = search needs
 
 sub-t12 : tie.Need-sub-t12
-sub-t12 c = let h = c .before .read-on .ensures .3 in rw (small-pos _ h) (neg-fits _ h)
+sub-t12 c = let h = c .before .read-on .ensures .0 .3 in rw (small-pos _ h) (neg-fits _ h)
 
 returns-4 : tie.Need-returns-4
 returns-4 c =
     let b = c .before .before in
     let s = b .before .before .before .before .before in
-    let d = c .before .read-on .ensures in
-    let n = c .before .read-on .result .value in (
-      rw (small-pos n (d .3), toZ-ofZ w32 (pos 0 -ℤ pos n) (neg-fits n (d .3)), neg-is n)
-          (found-minus _ _ (s .pre .0) _ _ (s .pre .1) (b .before .if2 .left) (b .if3 .left) d),
-      λ e h k. absurd (omega (arith, e, d .0)),
+    let (d, e) = c .before .read-on .ensures in
+    let n = c .before .read-on .result .value in
+    rw (small-pos n (d .3), toZ-ofZ w32 (pos 0 -ℤ pos n) (neg-fits n (d .3)), neg-is n) (
+      found-minus _ _ (s .pre .0) _ _ (s .pre .1) (b .before .if2 .left) (b .if3 .left) d,
+      answered-minus _ _ (s .pre .1) (b .before .before .before .if1 .left) (b .before .if2 .left) (b .if3 .left) _ _ d e,
     )
 
 pub minus-at-spec : {M : Type 1} → statement M

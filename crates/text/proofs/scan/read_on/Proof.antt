@@ -1,4 +1,5 @@
 -- `text::scan::read_on` meets its contract: the digits up to here stand, and a digit more stands. Assumes nothing.
+use native.Mathlib.Omega.{arith}
 use Prim.Native.Nat.{_-_}
 use lib.ListN.{length}
 use borrow.Author.Needs.{needs}
@@ -20,10 +21,10 @@ shared-slice-read-b : tie.Need-shared-slice-read-b Inv-loop μ-loop
 shared-slice-read-b c = search needs
 
 returns : tie.Need-returns Inv-loop μ-loop
-returns c = c .before .before .before .loop .inv
+returns c = (c .before .before .before .loop .inv, λ h l m. omega (arith, l, c .if1 .taken))
 
 returns-2 : tie.Need-returns-2 Inv-loop μ-loop
-returns-2 c = c .before .before .before .before .loop .inv
+returns-2 c = (c .before .before .before .before .loop .inv, λ h l m. omega (arith, m, c .if2 .taken))
 
 mul-w : tie.Need-mul-w Inv-loop μ-loop
 mul-w c = search needs
@@ -35,7 +36,7 @@ add-w : tie.Need-add-w Inv-loop μ-loop
 add-w c = search needs
 
 returns-3 : tie.Need-returns-3 Inv-loop μ-loop
-returns-3 c = c .before .before .before .before .before .loop .inv
+returns-3 c = (c .before .before .before .before .before .loop .inv, λ h l m. c .if3 .taken)
 
 add-i : tie.Need-add-i Inv-loop μ-loop
 add-i c = search needs
@@ -49,7 +50,7 @@ loop-again c =
     digits-turn _ _ _ _ _ (t .before .loop .inv) (t .loop-test .taken) (c .before .before .if1 .left) (c .before .if2 .left) (c .if3 .left)
 
 returns-4 : tie.Need-returns-4 Inv-loop μ-loop
-returns-4 c = c .before .loop .inv
+returns-4 c = (c .before .loop .inv, λ h l m. omega (arith, h, c .loop-test .left))
 
 pub read-on-spec : {M : Type 1} → statement M
 read-on-spec =
