@@ -74,6 +74,10 @@ def reports():
     sparse = "".join(table(1, [[k if k < 16 else 256 * t + k] for [k] in keys(r, 256)]) for t in range(7))
     yield "mostly-blank", sparse + chain(7, "L", lambda t: [line("C", t - 1, 0, "=", t, 0)])
     yield "three-rows", "".join(table(1, [[k] for k in range(3)]) for _ in range(8)) + chain(8, "L", same_key)
+    # each of 32 conditions is counted over 65,536 pairs; some cells are blank
+    gaps = "".join(table(2, [[k, r.choice(["-"] + 9 * [r.randrange(300)])] for [k] in keys(r, 256)]) for _ in range(2))
+    operators = (["<", "=", "<=", ">", "<>", ">="] * 6)[:31]
+    yield "conditions-32", gaps + line("J", "L", 0, 1) + same_key(1)[0] + "".join(line("C", 0, 1, o, 1, 1) for o in operators)
 
 
 def main():

@@ -1,8 +1,8 @@
 /* Rumbethola: an engine that joins the tables of a report by inner and left outer joins in any joining order.
 
    The routines of target/staticlib/libcapi.a, which `rt staticlib capi` builds, on x86-64 Linux. The product's
-   specification is the document "Joining strain reports in any order", document 01; docs/FORMAT.md has the report
-   text, the print and the refusals.
+   specification is docs/SPECIFICATION.md, from the document "Joining strain reports in any order", document 01, and
+   the requests that came later, document 02; docs/FORMAT.md has the report text, the print and the refusals.
 
    Proved (crates/capi, with the crates under it): every routine ends, touches no memory outside the lengths that it
    is given, and for any contents and lengths returns and leaves in all lent memory what a definition says. The
@@ -16,9 +16,8 @@
      for its type; a count is the count of numbers, not of bytes;
    - no two of the buffers of one call overlap, and none overlaps the text;
    - nothing else reads or writes the buffers, or writes the text, during the call;
-   - the thread has RUMBETHOLA_STACK bytes of stack left, 128 KiB. rumbethola_report and rumbethola_print_report take
-     less than 48 KiB of them, rumbethola_direct and rumbethola_print_direct less than 64 KiB. This is measured
-     (tests/capi/check), not proved. A thread that is made with less needs pthread_attr_setstacksize.
+   - the thread has RUMBETHOLA_STACK bytes of stack left, 128 KiB. Each routine takes less than 64 KiB of them. This
+     is measured (tests/capi/check), not proved. A thread that is made with less needs pthread_attr_setstacksize.
    A slice of the proved routine is two arguments here, the pointer and the count of its numbers, in this order.
    The routines keep nothing between calls, use no heap and no file, and call only memcpy and memset, so that calls
    with buffers of their own may run at the same time. */
@@ -44,7 +43,7 @@ extern "C" {
 
 /* The least counts of the buffer that is handed over in: numbers of `answer` for rumbethola_report and
    rumbethola_direct, bytes of `out` for the prints; and what a call with less returns. They are this library's own. */
-#define RUMBETHOLA_ANSWER 92
+#define RUMBETHOLA_ANSWER 189
 #define RUMBETHOLA_DIRECT_ANSWER 2
 #define RUMBETHOLA_OUT 32768
 #define RUMBETHOLA_NO_ROOM 255
@@ -85,15 +84,19 @@ extern "C" {
 #define RUMBETHOLA_BLANK 65535
 
 /* The places of an answer of rumbethola_report. The direct reading has the first two. */
-#define RUMBETHOLA_AT_ROWS 0      /* count of rows */
-#define RUMBETHOLA_AT_TABLES 1    /* count of tables: how many numbers a row of the result has */
-#define RUMBETHOLA_AT_COUNT 2     /* count of steps of the plan */
-#define RUMBETHOLA_AT_STATUS 3    /* the number that the call returns */
-#define RUMBETHOLA_AT_SETS 4      /* eight blanking sets, table by table: bit k is condition k; those behind the
-                                     tables are 0 */
-#define RUMBETHOLA_AT_STEPS 12    /* sixteen steps of five numbers; those behind the plan are 0 */
+#define RUMBETHOLA_AT_ROWS 0           /* count of rows */
+#define RUMBETHOLA_AT_TABLES 1         /* count of tables: how many numbers a row of the result has */
+#define RUMBETHOLA_AT_COUNT 2          /* count of steps of the plan */
+#define RUMBETHOLA_AT_STATUS 3         /* the number that the call returns */
+#define RUMBETHOLA_AT_SETS 4           /* eight blanking sets, table by table: bit k is condition k; those behind the
+                                          tables are 0 */
+#define RUMBETHOLA_AT_STEPS 12         /* sixteen steps of five numbers; those behind the plan are 0 */
+#define RUMBETHOLA_AT_CONDITIONS 92    /* count of conditions: of the C and K lines of the text */
+#define RUMBETHOLA_AT_TALLIES 93       /* thirty-two conditions of three numbers, by rising number; those behind the
+                                          conditions are 0 */
 #define RUMBETHOLA_TABLES 8
 #define RUMBETHOLA_STEPS 16
+#define RUMBETHOLA_CONDITIONS 32
 
 /* The five numbers of a step. Those that a kind lacks are 0. */
 #define RUMBETHOLA_STEP_NUMBERS 5
@@ -102,6 +105,14 @@ extern "C" {
 #define RUMBETHOLA_STEP_SECOND 2        /* a node */
 #define RUMBETHOLA_STEP_ROWS 3          /* count of rows of a pair's result */
 #define RUMBETHOLA_STEP_CONDITIONS 4    /* bit k is condition k */
+
+/* The three numbers of a condition: how often it is true, false and unknown, over all pairs of a row of its one table
+   and a row of its other table; of a K line, over the rows of its table. It is unknown where a cell is blank. The three
+   add up to the number of pairs, of a K line to the number of rows, and none is more than 65536. */
+#define RUMBETHOLA_TALLY_NUMBERS 3
+#define RUMBETHOLA_TALLY_TRUE 0
+#define RUMBETHOLA_TALLY_FALSE 1
+#define RUMBETHOLA_TALLY_UNKNOWN 2
 
 /* The kinds of a step. */
 #define RUMBETHOLA_INNER 1

@@ -1,4 +1,5 @@
-/* Prints the rows of a report through the numbers of rumbethola_report, or, with --print, its whole print:
+/* Prints the counts of a report's conditions and its rows through the numbers of rumbethola_report, or, with --print,
+   its whole print:
 
        rows [--print] FILE
 
@@ -7,7 +8,8 @@
        rt staticlib capi
        gcc -O2 -Iinclude examples/c/rows.c target/staticlib/libcapi.a -o rows
 
-   A row is written as in the print: R and, for each table, a row number or - behind a tab.
+   Both are written as in the print: U and, behind a tab each, a condition and how often it is true, false and unknown;
+   R and, for each table, a row number or - behind a tab.
 
    Exit status 0: an answer was printed. 1: the text was refused, and E with the number was printed. 2: the arguments
    are wrong, the file could not be read, or the print could not be written; one line on standard error says which. */
@@ -15,6 +17,7 @@
 #define _POSIX_C_SOURCE 200112L
 #include "rumbethola.h"
 
+#include <inttypes.h>
 #include <signal.h>
 #include <stdio.h>
 #include <string.h>
@@ -29,6 +32,15 @@ static uint16_t result[RUMBETHOLA_RESULT];
 static uint64_t answer[RUMBETHOLA_ANSWER];
 static uint8_t out[RUMBETHOLA_OUT];
 
+static void print_tallies(void)
+{
+    for (size_t condition = 0; condition < answer[RUMBETHOLA_AT_CONDITIONS]; condition++) {
+        const uint64_t *tally = answer + RUMBETHOLA_AT_TALLIES + condition * RUMBETHOLA_TALLY_NUMBERS;
+        printf("U\t%zu\t%" PRIu64 "\t%" PRIu64 "\t%" PRIu64 "\n", condition, tally[RUMBETHOLA_TALLY_TRUE],
+               tally[RUMBETHOLA_TALLY_FALSE], tally[RUMBETHOLA_TALLY_UNKNOWN]);
+    }
+}
+
 static int print_rows(size_t text_count)
 {
     uint8_t status = rumbethola_report(text, text_count, cells, RUMBETHOLA_CELLS, work, RUMBETHOLA_WORK, result,
@@ -37,6 +49,7 @@ static int print_rows(size_t text_count)
         printf("E\t%d\n", status);
         return REFUSED;
     }
+    print_tallies();
     size_t tables = answer[RUMBETHOLA_AT_TABLES];
     for (size_t row = 0; row < answer[RUMBETHOLA_AT_ROWS]; row++) {
         printf("R");

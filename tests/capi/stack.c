@@ -11,7 +11,7 @@
 #include <stdio.h>
 #include <string.h>
 
-enum { STACK = 1 << 20, KIB = 1024, MARK = 0xa5, ROUTINES = 4 };
+enum { STACK = 1 << 20, KIB = 1024, MOST = 64 * KIB, MARK = 0xa5, ROUTINES = 4 };
 
 static _Alignas(4096) unsigned char stack[STACK];
 static size_t from;
@@ -66,12 +66,11 @@ static void *print_direct(void *given)
 static const struct {
     const char *name;
     void *(*call)(void *);
-    size_t below;
 } routines[ROUTINES] = {
-    {"report", report, 48 * KIB},
-    {"direct", direct, 64 * KIB},
-    {"print_report", print_report, 48 * KIB},
-    {"print_direct", print_direct, 64 * KIB},
+    {"report", report},
+    {"direct", direct},
+    {"print_report", print_report},
+    {"print_direct", print_direct},
 };
 
 /* The bytes of stack that a call takes. */
@@ -117,7 +116,7 @@ int main(int argc, char **argv)
     printf("stack, %d texts:", argc - 1);
     for (int k = 0; k < ROUTINES; k++) {
         printf(" %s %zu", routines[k].name, most[k]);
-        wrong |= most[k] >= routines[k].below;
+        wrong |= most[k] >= MOST;
     }
     printf(" bytes\n");
     return wrong;

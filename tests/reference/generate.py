@@ -83,7 +83,9 @@ def whole(rng, size=None):
         while rng.random() < loose:
             any_table = sorted(lefts | rights)
             a, b = rng.choice(any_table), rng.choice(any_table)
-            if rng.random() < 0.3 or a == b:
+            if rng.random() < 0.1:
+                own.append(list(rng.choice(own)))           # the same line twice
+            elif rng.random() < 0.3 or a == b:
                 constant = rng.choice([0, 0, 1, 1, 2, highest, -1])
                 own.append(["K", a, rng.randrange(columns[a]), rng.choice(OPERATORS), constant])
             else:

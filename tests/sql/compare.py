@@ -4,6 +4,7 @@ import collections
 import glob
 import os
 import random
+import re
 import subprocess
 import sys
 import time
@@ -16,10 +17,11 @@ import translate                                                        # noqa: 
 
 LIMIT = 256
 SECONDS = 50            # where no count is given, no new report is begun after these
+LETTERS = re.compile("S+U*M*B*Z?R*")            # the lines of an answer's print, by their letters
 
 
-def printed(rows):
-    return "".join("R\t%s\n" % "\t".join("-" if r is None else str(r) for r in row)
+def printed(rows, letter="R"):
+    return "".join("%s\t%s\n" % (letter, "\t".join("-" if r is None else str(r) for r in row))
                    for row in rows).encode("ascii")
 
 
@@ -35,9 +37,9 @@ def without_order(text):
     return b"".join(line for line in text.splitlines(True) if not line.startswith(b"P"))
 
 
-def rows_of(out):
-    """The R lines of a print."""
-    return b"".join(line for line in out.splitlines(True) if line.startswith(b"R"))
+def lines_of(out, letter):
+    """The R lines of a print, or those of another letter."""
+    return b"".join(line for line in out.splitlines(True) if line.startswith(letter))
 
 
 def turned_down(out):
@@ -51,9 +53,9 @@ class Check:
     """Holds an implementation to an SQL system.
 
     run(program, text) gives a print; ask(text) gives the rows of the nested join
-    and of the joins one by one, both as printed() writes them, and the most rows
-    that a join has. run_plan(text, lines), which may be left out, gives the counts
-    of the pairs and the rows of a printed plan.
+    and of the joins one by one, both as printed() writes them, the most rows that a
+    join has, and the counts of each condition, as U lines. run_plan(text, lines), which
+    may be left out, gives the counts of the pairs and the rows of a printed plan.
     """
 
     def __init__(self, ask, run, run_plan):
@@ -70,14 +72,18 @@ class Check:
         sys.stdout.flush()
 
     def sql(self, text):
-        nested, steps, most = self.ask(text)
+        nested, steps, most, tallies = self.ask(text)
         if nested != steps:
             self.difference("the nested join and the joins one by one in SQL", text,
                             nested=nested, one_by_one=steps)
         self.count["rows of SQL"] += nested.count(b"\n")
         if b"\t-" in nested:
             self.count["results of SQL with a blank"] += 1
-        return nested, most
+        for line in tallies.splitlines():
+            self.count["conditions counted by SQL"] += 1
+            if int(line.split(b"\t")[4]):
+                self.count["conditions counted by SQL: unknown of some rows"] += 1
+        return nested, most, tallies
 
     def hold_direct(self, text, out, rows, most, who):
         expected = rows if most <= LIMIT else b"E\t11\n"
@@ -85,7 +91,7 @@ class Check:
         if out != expected:
             self.difference(who, text, SQL=expected, printed=out)
 
-    def hold_report(self, text, out, rows, who):
+    def hold_report(self, text, out, rows, tallies, who):
         number = turned_down(out)
         if number is None:
             self.count[who + ": rows"] += 1
@@ -93,7 +99,12 @@ class Check:
                 self.count[who + ": with blanking steps"] += 1
             if b"\nM\tO\t" in out:
                 self.count[who + ": with a product"] += 1
-            if rows_of(out) != rows:
+            if lines_of(out, b"U") != tallies:
+                self.difference(who + ", the U lines", text, SQL=tallies, printed=out)
+            letters = "".join(line[:1] for line in out.decode("ascii", "replace").splitlines())
+            if not LETTERS.fullmatch(letters):
+                self.difference(who + ", the order of the lines", text, printed=out)
+            if lines_of(out, b"R") != rows:
                 self.difference(who, text, SQL=rows, printed=out)
             elif self.run_plan:
                 self.hold_plan(text, out, rows, who)
@@ -129,7 +140,7 @@ class Check:
     def random_report(self, text, n, rng, orders):
         self.count["random reports"] += 1
         self.count["random reports of %d tables" % n] += 1
-        rows, most = self.sql(text)
+        rows, most, tallies = self.sql(text)
         if rows:
             self.count["random reports with rows"] += 1
         self.hold_direct(text, self.run("direct", text), rows, most, "direct")
@@ -137,7 +148,7 @@ class Check:
         if n > 1:
             given += [reports.order_lines(rng, n) for _ in range(orders)]
         for order in given:
-            self.hold_report(text + order, self.run("report", text + order), rows, "report")
+            self.hold_report(text + order, self.run("report", text + order), rows, tallies, "report")
 
     def file(self, path, rng, orders):
         with open(path, "rb") as file:
@@ -150,12 +161,12 @@ class Check:
             self.count["files turned down by questions 2 to 8"] += 1
             return
         self.count["files"] += 1
-        rows, most = self.sql(text)
+        rows, most, tallies = self.sql(text)
         self.hold_direct(text, stored["direct"], rows, most, "stored direct")
         self.hold_direct(text, self.run("direct", text), rows, most, "direct")
         if turned_down(stored["report"]) != 9:
-            self.hold_report(text, stored["report"], rows, "stored report")
-            self.hold_report(text, self.run("report", text), rows, "report")
+            self.hold_report(text, stored["report"], rows, tallies, "stored report")
+            self.hold_report(text, self.run("report", text), rows, tallies, "report")
         query = without_order(text)
         given = [b""]
         n = len(translate.Query(text).tables)
@@ -163,7 +174,7 @@ class Check:
             given += [reports.order_lines(rng, n) for _ in range(orders)]
         for order in given:
             if len(query + order) <= 16384:
-                self.hold_report(query + order, self.run("report", query + order), rows, "report")
+                self.hold_report(query + order, self.run("report", query + order), rows, tallies, "report")
 
 
 def main(name, about, system, ask, count, run_plan=None):
@@ -209,5 +220,6 @@ def main(name, about, system, ask, count, run_plan=None):
         if counted != "differences":
             print("%7d %s" % (check.count[counted], counted))
     print("%d differences in %.0f seconds" % (check.count["differences"], time.monotonic() - start))
-    enough = check.count["direct: rows"] and check.count["report: rows"]
+    enough = (check.count["direct: rows"] and check.count["report: rows"]
+              and check.count["conditions counted by SQL: unknown of some rows"])
     return 0 if enough and not check.count["differences"] else 1

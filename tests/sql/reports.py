@@ -1,8 +1,8 @@
 """Random reports that questions 2 to 8 do not turn down, by how they are made.
 
 One to eight tables, some of them empty, blanks in the cells, all operators,
-C lines between the sides, C lines with both tables on one side, K lines. The
-same seed gives the same texts.
+C lines between the sides, C lines with both tables on one side, K lines, lines
+that stand twice. The same seed gives the same texts.
 """
 import random
 
@@ -90,7 +90,9 @@ def report(rng):
         # each join to come needs one
         while rng.random() < more and left_conditions > n - 2 - i:
             a, b = (rng.choice(sorted(lefts | rights)) for _ in range(2))
-            if a == b or rng.random() < 0.3:
+            if rng.random() < 0.1:
+                own.append(list(rng.choice(own)))
+            elif a == b or rng.random() < 0.3:
                 own.append(["K"] + side(a) + [rng.choice(OPERATORS), value()])
             else:
                 own.append(["C"] + side(a) + [operator()] + side(b))

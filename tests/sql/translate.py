@@ -13,7 +13,8 @@ have the same name, so a condition can name its columns without a table, in
 nested joins too. The J lines become one nested join expression: each join is
 INNER JOIN or LEFT JOIN, in parentheses, ON all its conditions joined by AND.
 SQL's own rules do the rest: a comparison with NULL is unknown, and only rows
-whose condition is true belong together.
+whose condition is true belong together. By the same rules a condition is true,
+false or unknown of each row of its two tables' product, which make_tallies counts.
 """
 import sys
 
@@ -23,6 +24,7 @@ class Query:
         self.tables = []            # (count of columns, rows as lists of fields)
         self.joins = []             # (kind, left, right, conditions as SQL)
         self.conditions = []        # all conditions as SQL, by their numbers
+        self.named = []             # the SQL tables that each condition names
         self.pairs = []             # (left, right)
         for line in text.decode("ascii").splitlines():
             letter, *fields = line.split("\t")
@@ -35,18 +37,19 @@ class Query:
             elif letter == "C":
                 table, column, operator, other_table, other_column = fields
                 self.condition("t%s_c%s %s t%s_c%s" % (
-                    table, column, operator, other_table, other_column))
+                    table, column, operator, other_table, other_column), table, other_table)
             elif letter == "K":
                 table, column, operator, constant = fields
-                self.condition("t%s_c%s %s %s" % (table, column, operator, constant))
+                self.condition("t%s_c%s %s %s" % (table, column, operator, constant), table)
             elif letter == "P":
                 self.pairs.append((int(fields[0]), int(fields[1])))
             else:
                 raise ValueError("not a line of a report: %r" % line)
 
-    def condition(self, sql):
+    def condition(self, sql, *tables):
         self.joins[-1][3].append(sql)
         self.conditions.append(sql)
+        self.named.append(["t" + table for table in tables])
 
     def columns(self, t):
         return ["t%d_row" % t] + ["t%d_c%d" % (t, c) for c in range(self.tables[t][0])]
@@ -141,6 +144,14 @@ class Query:
             elif letter == "Z":
                 last = make("z", self.best_match(last))
         return statements, last
+
+    def make_tallies(self):
+        """For each condition the statement that gives its number and how often it is true,
+        false and unknown: over all pairs of rows of its two tables, or all rows of its one."""
+        return ["SELECT %d, COUNT(CASE WHEN %s THEN 1 END), COUNT(CASE WHEN NOT (%s) THEN 1 END), "
+                "COUNT(CASE WHEN (%s) IS NULL THEN 1 END) FROM %s" % (
+                    number, sql, sql, sql, " CROSS JOIN ".join(tables))
+                for number, (sql, tables) in enumerate(zip(self.conditions, self.named))]
 
     def best_match(self, source):
         """The rows of a table that are not wholly blank and that no other row dominates, once each."""

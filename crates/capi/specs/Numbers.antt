@@ -4,8 +4,10 @@ use mathlib.Core.Path.{_≡_}
 use mathlib.Core.List.{List, [], _∷_, _++_, flatMap}
 use Prim.Native.Nat.{ℕ, _+_, _*_, _≤_}
 use lib.ListN.{length, drop}
-use Rattle.cells.specs.Limits.{mostTables, mostSteps, printRoom}
+use Rattle.cells.specs.Limits.{mostTables, mostWritten, mostSteps, printRoom}
+use Rattle.vocabulary.specs.Facts.{firstTallies}
 use Rattle.vocabulary.specs.declared.facts.Facts.{Facts}
+use Rattle.vocabulary.specs.declared.facts.Tally.{Tally}
 use Rattle.vocabulary.specs.declared.step.Step.{Step}
 use Rattle.print.specs.declared.whole.Printed.{Printed}
 use Rattle.print.specs.declared.whole.Printed.the-variants.{Bytes as Wrote, NoRoom, Unfit}
@@ -22,17 +24,23 @@ unfoldable pub rowNumber : Answer → ℕ
 rowNumber (Rows n) = n
 rowNumber (Refused n) = 0
 
--- how many numbers an answer of the report has: four counts, a set for each table, and five for each step. Specification 10.10
+-- how many numbers an answer of the report has: four counts, a set for each table, five for each step, the count of conditions, and three
+-- for each condition that a text may write. Specification 10.10
 abbrev pub answerRoom : ℕ
-answerRoom = 4 + mostTables + 5 * mostSteps
+answerRoom = 4 + mostTables + 5 * mostSteps + 1 + 3 * mostWritten
 
 -- a step: kind, first node, second node, rows, conditions. Specification 10.10
 unfoldable pub stepNumbers : Step → List ℕ
 stepNumbers s = s .kind ∷ s .first ∷ s .second ∷ s .rows ∷ s .conditions ∷ []
 
--- an answer of the report: rows, tables, count of steps, status, the sets, the steps. Specification 10.10
+-- a condition's counts: how often it is true, false, unknown. Specification 10.10
+unfoldable pub tallyNumbers : Tally → List ℕ
+tallyNumbers t = t .holds ∷ t .fails ∷ t .unknown ∷ []
+
+-- an answer of the report: rows, tables, count of steps, status, the sets, the steps, the count of conditions, their counts. Specification 10.10
 unfoldable pub answerNumbers : Answer → Facts → ℕ → List Step → List ℕ
-answerNumbers a f count steps = (rowNumber a ∷ f .tables ∷ count ∷ statusOf a ∷ []) ++ f .sets ++ flatMap stepNumbers steps
+answerNumbers a f count steps =
+    (rowNumber a ∷ f .tables ∷ count ∷ statusOf a ∷ []) ++ f .sets ++ flatMap stepNumbers steps ++ (f .conditions ∷ []) ++ flatMap tallyNumbers (firstTallies f mostWritten)
 
 -- numbers at the front of a buffer; the rest of it keeps its contents. Specification 10.10
 unfoldable pub atFront : List ℕ → List ℕ → List ℕ

@@ -1,16 +1,21 @@
 // An answer as a list of 64-bit numbers.
+use cells::limits::CONDITIONS;
 use cells::limits::STEPS;
 use cells::limits::TABLES;
+use cells::limits::WRITTEN;
 use engine::answer::Answer;
 use vocabulary::facts::Facts;
+use vocabulary::facts::Tally;
 use vocabulary::step::Step;
 ghost use mathlib.Core.Path.{_≡_};
-ghost use mathlib.Core.List.{_∷_, [], flatMap};
+ghost use mathlib.Core.List.{_∷_, [], map, flatMap};
 ghost use Prim.Native.Nat.{_+_, _*_, _≤_};
 ghost use lib.ListN.{length};
-ghost use Rattle.cells.specs.Limits.{mostTables, mostSteps};
+ghost use Rattle.cells.specs.Limits.{mostTables, mostWritten, mostSteps};
+ghost use Rattle.rows.specs.Lists.{range};
+ghost use Rattle.vocabulary.specs.Facts.{tallyFrom};
 ghost use Rattle.print.specs.inner.Output.{Written};
-ghost use Rattle.capi.specs.Numbers.{answerRoom, statusOf, rowNumber, stepNumbers, answerNumbers};
+ghost use Rattle.capi.specs.Numbers.{answerRoom, statusOf, rowNumber, stepNumbers, tallyNumbers, answerNumbers};
 
 // 0 for an answer, or the number of the refusal.
 pub fn status_of(a: Answer) -> u8
@@ -101,6 +106,42 @@ fn put_steps(buffer: &mut [u64], at: usize, steps: [Step; STEPS]) -> usize
     next
 }
 
+// One condition's counts.
+fn put_tally(buffer: &mut [u64], at: usize, t: Tally) -> usize
+    requires { ⌜ at + 3 ≤ length (now buffer) ⌝ }
+    ensures { λ r. ⌜ Written (now (buffer .entry)) at (tallyNumbers t) 3 (now (buffer .exit)) r ⌝ }
+{
+    let mut next = put(buffer, at, t.holds as u64);
+    next = put(buffer, next, t.fails as u64);
+    put(buffer, next, t.unknown as u64)
+}
+
+// The counts of the conditions that a text may write, one behind the other.
+fn put_tallies(
+    buffer: &mut [u64],
+    at: usize,
+    holds: [u32; CONDITIONS],
+    fails: [u32; CONDITIONS],
+    unknown: [u32; CONDITIONS],
+) -> usize
+    requires { ⌜ at + 3 * mostWritten ≤ length (now buffer) ⌝ }
+    ensures { λ r. ⌜ Written (now (buffer .entry)) at (flatMap tallyNumbers (map (tallyFrom holds fails unknown) (range 0 mostWritten))) (3 * mostWritten)
+        (now (buffer .exit)) r ⌝ }
+{
+    let mut next = at;
+    let mut k: usize = 0;
+    while k < WRITTEN {
+        let t = Tally {
+            holds: holds[k],
+            fails: fails[k],
+            unknown: unknown[k],
+        };
+        next = put_tally(buffer, next, t);
+        k += 1;
+    }
+    next
+}
+
 // All numbers of an answer of the report, at the front.
 pub(crate) fn put_answer(
     buffer: &mut [u64],
@@ -118,7 +159,12 @@ pub(crate) fn put_answer(
     let sets = facts.sets;
     let mut next = put_counts(buffer, 0, rows, tables, count as u64, status as u64);
     next = put_sets(buffer, next, sets);
-    put_steps(buffer, next, steps)
+    next = put_steps(buffer, next, steps);
+    next = put(buffer, next, facts.conditions as u64);
+    let holds = facts.holds;
+    let fails = facts.fails;
+    let unknown = facts.unknown;
+    put_tallies(buffer, next, holds, fails, unknown)
 }
 
 // The numbers of an answer of the direct reading, at the front.

@@ -7,12 +7,13 @@ use lib.IntN.{ℤ}
 use lib.ListN.{getD, drop}
 use Rattle.cells.specs.Choice.{if_then_else_}
 use Rattle.cells.specs.Cell.{blankCell}
-use Rattle.cells.specs.Operator.{holds}
+use Rattle.cells.specs.Operator.{truthOf, isTrue}
 use Rattle.cells.specs.Row.{Row, blankRow, at}
 use Rattle.cells.specs.declared.condition.Condition.{Condition}
 use Rattle.cells.specs.declared.condition.Side.{Side}
 use Rattle.cells.specs.declared.condition.Side.the-variants.{Column, Constant}
 use Rattle.cells.specs.declared.condition.Layout.{Layout}
+use Rattle.cells.specs.declared.operator.Truth.{Truth}
 
 -- what the tables hold: the cell of a table, a row and a column. Specification 3.3
 abbrev pub Cells : Type 0
@@ -27,9 +28,13 @@ unfoldable pub sideIn : Cells → Row → Side → ℤ
 sideIn cells row (Column t c) = cellIn cells row t c
 sideIn cells row (Constant z) = z
 
--- whether a condition is true in a row. Specification 4.4
+-- how a condition comes out in a row. Specification 4.4
+unfoldable pub truthIn : Cells → Condition → Row → Truth
+truthIn cells k row = truthOf (k .operator) (cellIn cells row (k .table) (k .column)) (sideIn cells row (k .side))
+
+-- whether a condition is true in a row: it comes out true. Specification 4.4
 unfoldable pub trueIn : Cells → Condition → Row → Bool
-trueIn cells k row = holds (k .operator) (cellIn cells row (k .table) (k .column)) (sideIn cells row (k .side))
+trueIn cells k row = isTrue (truthIn cells k row)
 
 -- the tables that a condition's second side names. Specification 4.1
 unfoldable pub sideNames : Side → List ℕ

@@ -1,5 +1,5 @@
 -- Operators, and how two numbers compare: document 01, "Conditions". Specification 4.2. Assumes nothing.
-use mathlib.Core.Bool.{Bool, false, not, _&&_}
+use mathlib.Core.Bool.{Bool, true, false, not, _||_}
 use mathlib.Core.List.{List, [], _∷_}
 use Prim.Native.Nat.{ℕ, _+_, _*_, _/_, _%_}
 use lib.IntN.{ℤ}
@@ -9,6 +9,8 @@ use Rattle.cells.specs.Choice.{if_then_else_}
 use Rattle.cells.specs.Cell.{eqZ, isBlank}
 use Rattle.cells.specs.declared.operator.Ordering.{Ordering}
 use Rattle.cells.specs.declared.operator.Ordering.the-variants.{Less, Equal, Greater}
+use Rattle.cells.specs.declared.operator.Truth.{Truth}
+use Rattle.cells.specs.declared.operator.Truth.the-variants.{True, False, Unknown}
 
 -- the orderings less, equal, greater: the number of each is its column in the table of operators. Specification 4.2
 unfoldable pub columnOf : Ordering → ℕ
@@ -44,6 +46,29 @@ says op x y = getD operators op never x y
 unfoldable pub mirrorOf : ℕ → ℕ
 mirrorOf op = op / 4 + op / 2 % 2 * 2 + op % 2 * 4
 
--- a condition on two cells: "if either cell is blank, the condition is not true, `<>` included". Specification 4.4
+-- how a condition on two cells comes out: "A condition now comes out true, false or unknown, unknown exactly where a blank takes part"
+-- (document 02, item 1). Specification 4.4
+unfoldable pub truthOf : ℕ → ℤ → ℤ → Truth
+truthOf op x y = if isBlank x || isBlank y then Unknown else if says op x y then True else False
+
+-- whether it comes out true: joins and blanking "make no difference between the last two". Specification 4.4
+unfoldable pub isTrue : Truth → Bool
+isTrue True = true
+isTrue False = false
+isTrue Unknown = false
+
+-- whether it comes out false, and whether it comes out unknown. Specification 4.4
+unfoldable pub isFalse : Truth → Bool
+isFalse True = false
+isFalse False = true
+isFalse Unknown = false
+
+-- Specification 4.4
+unfoldable pub isUnknown : Truth → Bool
+isUnknown True = false
+isUnknown False = false
+isUnknown Unknown = true
+
+-- whether a condition is true of two cells: "if either cell is blank, the condition is not true, `<>` included". Specification 4.4
 unfoldable pub holds : ℕ → ℤ → ℤ → Bool
-holds op x y = not (isBlank x) && not (isBlank y) && says op x y
+holds op x y = isTrue (truthOf op x y)

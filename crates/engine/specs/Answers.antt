@@ -6,6 +6,8 @@ use Rattle.cells.specs.Row.{Row}
 use Rattle.vocabulary.specs.Asking.{Question, firstNo}
 use Rattle.vocabulary.specs.Report.{Report, queryOf}
 use Rattle.vocabulary.specs.Steps.{bitsOf}
+use Rattle.vocabulary.specs.Tallies.{tallies}
+use Rattle.vocabulary.specs.declared.facts.Tally.{Tally}
 use Rattle.vocabulary.specs.declared.step.Step.{Step}
 use Rattle.text.specs.Bytes.{Bytes}
 use Rattle.text.specs.Reading.{readReport}
@@ -36,15 +38,16 @@ outcomeFor questions answer (some r) = elim (firstNo questions r) [ some n ↦ r
 unfoldable pub outcomeBy : {A : Type 0} → List (Question Report) → (Report → A) → Bytes → Outcome A
 outcomeBy questions answer text = outcomeFor questions answer (readReport text)
 
--- what an answer of the engine holds: each table's set as bits, the plan, and the rows. Specification 10.7
+-- what an answer of the engine holds: each table's set as bits, each condition's counts, the plan, and the rows. Specification 10.7
 pub record ReportAnswer : Type 0 where
   pub sets : List ℕ
+  pub tallies : List Tally
   pub steps : List Step
   pub rows : List Row
 
 -- Specification 10.7
 unfoldable pub reportAnswer : Report → ReportAnswer
-reportAnswer r = record { sets = map bitsOf (blankingSets (queryOf r)); steps = reportSteps r; rows = reportRows r }
+reportAnswer r = record { sets = map bitsOf (blankingSets (queryOf r)); tallies = tallies r; steps = reportSteps r; rows = reportRows r }
 
 -- the engine's outcome for a text. Specification 9.1
 unfoldable pub reportOutcome : Bytes → Outcome ReportAnswer

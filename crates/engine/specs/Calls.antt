@@ -1,17 +1,18 @@
 -- A call of the engine or of the direct reading, for any arguments: its answer, and all lent memory afterwards. Document 01, "Questions, in
 -- order". Specification 9.3, 10.2, 10.3, 10.4, 10.5, 10.6. Assumes nothing.
 use mathlib.Core.Bool.{Bool, _&&_, true, false}
-use mathlib.Core.List.{List, _++_, flatMap, []}
+use mathlib.Core.List.{List, _++_, map, flatMap, []}
 use Prim.Native.Nat.{ℕ, _-_}
 use mathlib.Core.Option.{none, some}
 use lib.Dec.{leb}
 use lib.IntN.{ℤ, pos}
 use lib.ListN.{length, drop, replicate}
-use Rattle.cells.specs.Limits.{cellRoom, workRoom, resultRoom, stepListRoom, mostTables}
+use Rattle.cells.specs.Limits.{cellRoom, workRoom, resultRoom, stepListRoom, mostTables, mostConditions}
 use Rattle.cells.specs.Row.{Row}
-use Rattle.vocabulary.specs.Facts.{noFacts}
+use Rattle.vocabulary.specs.Facts.{noTally, noFacts}
 use Rattle.vocabulary.specs.Steps.{zeroStep}
 use Rattle.vocabulary.specs.declared.facts.Facts.{Facts}
+use Rattle.vocabulary.specs.declared.facts.Tally.{Tally}
 use Rattle.vocabulary.specs.declared.step.Step.{Step}
 use Rattle.text.specs.Bytes.{Bytes}
 use Rattle.text.specs.Reading.{readReport}
@@ -60,11 +61,21 @@ pub record ReportCall : Type 0 where
   pub lent : Lent
   pub steps : List Step
 
--- what stands beside an answer: how many tables there are, and each one's set as bits; of a table that there is not, none. Specification 10.7
+-- what stands beside an answer: how many tables there are, and each one's set as bits; how many conditions there are, and each one's
+-- counts; of a table or a condition that there is not, none. Specification 10.7
 unfoldable pub factsOf : ReportAnswer → Facts
-factsOf a = record { tables = length (a .sets); sets = a .sets ++ replicate (mostTables - length (a .sets)) 0 }
+factsOf a =
+    let ts = a .tallies ++ replicate (mostConditions - length (a .tallies)) noTally in
+    record {
+      tables = length (a .sets);
+      sets = a .sets ++ replicate (mostTables - length (a .sets)) 0;
+      conditions = length (a .tallies);
+      holds = map (λ (t : Tally). t .holds) ts;
+      fails = map (λ (t : Tally). t .fails) ts;
+      unknown = map (λ (t : Tally). t .unknown) ts;
+    }
 
--- a call that question 1 did not turn down; after a refusal there is no table and no step. Specification 10.2, 10.7
+-- a call that question 1 did not turn down; after a refusal there is no table, no condition and no step. Specification 10.2, 10.7
 unfoldable pub reportAfter : Outcome ReportAnswer → Lent → List Step → ReportCall
 reportAfter (refused n) m steps = record {
   answer = Refused n;

@@ -1,18 +1,20 @@
 // The state at the start of a run, and what the run hands over: document 01, "The plan".
 use crate::answer::Answer;
 use cells::limits::AREAS;
+use cells::limits::TABLES;
 use joins::join::Joined;
 use plan::steps::Plan;
 use prepare::prepared::Prepared;
 use step_list::state::State;
 use vocabulary::facts;
 use vocabulary::facts::Facts;
+use vocabulary::query::StoredQuery;
 ghost use mathlib.Core.Path.{_≡_};
 ghost use Prim.Native.Nat.{_≤_};
 ghost use Rattle.cells.specs.Limits.{areas};
 ghost use Rattle.step_list.specs.inner.State.{startState};
-ghost use Rattle.engine.specs.inner.Planning.{refusedReply, answeredWith, turnedDown, withCounts};
-ghost use Rattle.engine.specs.inner.Preparing.{TablesWithin, Ends, Concludes};
+ghost use Rattle.engine.specs.inner.Planning.{refusedReply, answeredWith, turnedDown, withCounts, factsIn};
+ghost use Rattle.engine.specs.inner.Preparing.{QueryWithin, Within, Ends, Concludes};
 
 // What a call of the engine hands over by value: its answer, what stands beside it, and the plan.
 pub struct Planned {
@@ -83,11 +85,33 @@ fn answered(rows: usize, facts: Facts, plan: Plan) -> Concluded
     }
 }
 
+// What stands beside the rows of a query: its sets, and the counts of its conditions.
+fn facts_of(cells: &[i32], q: StoredQuery, sets: [u64; TABLES]) -> Facts
+    requires { ⌜ QueryWithin q ⌝ }
+    ensures { λ r. ⌜ r ≡ factsIn q sets (now (cells .entry)) ⌝ }
+{
+    let layout = q.layout;
+    let conditions = q.conditions;
+    let count = q.condition_count as usize;
+    let found = counts::tally::tallies(cells, layout, conditions, count);
+    let holds = found.holds;
+    let fails = found.fails;
+    let unknown = found.unknown;
+    Facts {
+        tables: q.table_count as usize,
+        sets,
+        conditions: count,
+        holds,
+        fails,
+        unknown,
+    }
+}
+
 // What a run hands over: the refusal where a question turned the text down or a pair has too many rows; or the rows in the result,
-// how many they are, and the plan with its counts.
-fn hand_over(work: &[u16], result: &mut [u16], p: Prepared, r: State) -> Concluded
-    requires { ⌜ TablesWithin p ⌝ }
-    ensures { λ x. ⌜ Ends p r (now (work .entry)) (now (result .entry)) (now (result .exit)) x ⌝ }
+// how many they are, what stands beside them, and the plan with its counts.
+fn hand_over(cells: &[i32], work: &[u16], result: &mut [u16], p: Prepared, r: State) -> Concluded
+    requires { ⌜ Within p ⌝ }
+    ensures { λ x. ⌜ Ends p r (now (cells .entry)) (now (work .entry)) (now (result .entry)) (now (result .exit)) x ⌝ }
 {
     if 0 < p.number {
         return turned_down(p.number);
@@ -95,13 +119,14 @@ fn hand_over(work: &[u16], result: &mut [u16], p: Prepared, r: State) -> Conclud
     let q = p.query;
     let sets = p.sets;
     let list = p.plan;
-    let tables = q.table_count as usize;
-    let pairs = tables - 1;
-    let facts = Facts { tables, sets };
+    let pairs = q.table_count as usize - 1;
     let counts = r.counts;
     let found = step_list::last::finish_run(work, q, r, result);
     match found {
-        Joined::Rows(n) => answered(n, facts, with_counts(list, counts, pairs)),
+        Joined::Rows(n) => {
+            let facts = facts_of(cells, q, sets);
+            answered(n, facts, with_counts(list, counts, pairs))
+        }
         Joined::TooMany => turned_down(11),
     }
 }
@@ -114,11 +139,11 @@ pub(crate) fn conclude(
     p: Prepared,
     r: State,
 ) -> Concluded
-    requires { ⌜ TablesWithin p ⌝ }
+    requires { ⌜ Within p ⌝ }
     ensures { λ x. ⌜ Concludes p r (now (cells .entry)) (now (cells .exit)) (now (work .entry)) (now (work .exit))
         (now (result .entry)) (now (result .exit)) x ⌝ }
 {
-    let h = hand_over(work, result, p, r);
+    let h = hand_over(cells, work, result, p, r);
     crate::clear::clear_work(work);
     crate::clear::clear_cells(cells);
     h

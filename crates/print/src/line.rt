@@ -1,15 +1,16 @@
 // The lines of the print.
 use crate::field;
 use crate::output;
+use vocabulary::facts::Tally;
 use vocabulary::step::Step;
 ghost use mathlib.Core.List.{[], _∷_, _++_, map, flatMap};
 ghost use Prim.Native.Nat.{_+_, _*_, _<_, _≤_};
 ghost use lib.ListN.{length, take, drop};
 ghost use Rattle.cells.specs.Limits.{mostTables};
 ghost use Rattle.text.specs.Bytes.{bytes};
-ghost use Rattle.text.specs.Print.{bitNumbers, printFields, printNumber, kindLetter, printStep, printRow, printRefusal};
+ghost use Rattle.text.specs.Print.{bitNumbers, printFields, printNumber, printTally, kindLetter, printStep, printRow, printRefusal};
 ghost use Rattle.print.specs.inner.Output.{Written};
-ghost use Rattle.print.specs.inner.Room.{fieldRoom, endRoom, tableRoom, kindRoom, bestMatchRoom, stepRoom, rowRoom, refusalRoom};
+ghost use Rattle.print.specs.inner.Room.{fieldRoom, endRoom, tableRoom, tallyRoom, kindRoom, bestMatchRoom, stepRoom, rowRoom, refusalRoom};
 ghost use Rattle.print.specs.inner.Fields.{printedField, entryField};
 
 // The end of a line: a number, the numbers of the conditions, and the line feed.
@@ -35,6 +36,19 @@ pub(crate) fn write_table(
 {
     let next = output::put(out, at, letter);
     write_end(out, next, table, conditions)
+}
+
+// A condition's line: its number, and how often it is true, false, unknown.
+pub(crate) fn write_tally(out: &mut [u8], at: usize, condition: u64, t: Tally) -> usize
+    requires { ⌜ at + tallyRoom ≤ length (now out) ⌝ }
+    ensures { λ r. ⌜ Written (now (out .entry)) at (printTally condition t) tallyRoom (now (out .exit)) r ⌝ }
+{
+    let mut next = output::put(out, at, b'U');
+    next = field::write_number(out, next, condition);
+    next = field::write_number(out, next, t.holds as u64);
+    next = field::write_number(out, next, t.fails as u64);
+    next = field::write_number(out, next, t.unknown as u64);
+    output::put(out, next, field::LINE_FEED)
 }
 
 // The letters of the kinds of a pair, by their numbers.

@@ -1,6 +1,7 @@
 // The whole print of an answer.
 use crate::line;
 use crate::lines;
+use cells::limits::CONDITIONS;
 use cells::limits::PRINT_ROOM;
 use cells::limits::ROWS;
 use cells::limits::STEPS;
@@ -39,17 +40,21 @@ fn rows_fit(tables: usize, rows: usize, numbers: usize) -> bool
     rows * tables <= numbers
 }
 
-// The same of an answer of the engine, with the count of its steps.
+// The same of an answer of the engine, with the counts of its steps and conditions.
 fn counts_fit(facts: Facts, steps: usize, rows: usize, numbers: usize) -> bool
     ensures { λ r. ⌜ r ≡ fitting facts steps rows numbers ⌝ }
 {
     if STEPS < steps {
         return false;
     }
+    if CONDITIONS < facts.conditions {
+        return false;
+    }
     rows_fit(facts.tables, rows, numbers)
 }
 
-// The lines of an answer of the engine from a place on: each table's set, the steps, and the rows that stand in `result`.
+// The lines of an answer of the engine from a place on: each table's set, each condition's counts, the steps, and the rows that stand
+// in `result`.
 fn write_report(
     out: &mut [u8],
     at: usize,
@@ -65,6 +70,10 @@ fn write_report(
 {
     let sets = facts.sets;
     let mut next = lines::write_sets(out, at, sets, facts.tables);
+    let holds = facts.holds;
+    let fails = facts.fails;
+    let unknown = facts.unknown;
+    next = lines::write_tallies(out, next, holds, fails, unknown, facts.conditions);
     next = lines::write_steps(out, next, steps, count);
     lines::write_rows(out, next, result, rows, facts.tables)
 }

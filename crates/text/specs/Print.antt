@@ -9,6 +9,7 @@ use Rattle.cells.specs.Limits.{mostConditions}
 use Rattle.cells.specs.Row.{blankRow, Row}
 use Rattle.rows.specs.Lists.{range, keep}
 use Rattle.vocabulary.specs.Bits.{hasBit}
+use Rattle.vocabulary.specs.declared.facts.Tally.{Tally}
 use Rattle.vocabulary.specs.declared.step.Step.{Step}
 use Rattle.text.specs.Bytes.{Bytes, tab, lineFeed, bytes}
 
@@ -42,6 +43,15 @@ printEntry x = if eqb x blankRow then bytes "-" else printNumber x
 unfoldable pub printSets : ℕ → List ℕ → Bytes
 printSets t [] = []
 printSets t (s ∷ S) = bytes "S" ++ printFields (map printNumber (t ∷ bitNumbers s)) ++ printSets (suc t) S
+
+-- "`U`, condition, and three counts": how often it is true, false, unknown (document 02, item 1). Specification 11.9
+unfoldable pub printTally : ℕ → Tally → Bytes
+printTally k t = bytes "U" ++ printFields (map printNumber (k ∷ t .holds ∷ t .fails ∷ t .unknown ∷ []))
+
+-- "for each condition by rising number", from a condition on. Specification 11.9
+unfoldable pub printTallies : ℕ → List Tally → Bytes
+printTallies k [] = []
+printTallies k (t ∷ ts) = printTally k t ++ printTallies (suc k) ts
 
 -- "kind (I, L, or O for product)". Specification 11.2
 unfoldable pub kindLetter : ℕ → Bytes

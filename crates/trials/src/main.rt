@@ -26,7 +26,7 @@ const LARGER: u8 = 43;
 const SHORTER: u8 = 45;
 
 // Room for the input.
-const INPUT: usize = 131072;
+const INPUT: usize = 262144;
 
 // How much is lent.
 struct Lent {

@@ -3,5 +3,6 @@ pub mod AskingLaws
 pub mod BitLaws
 pub mod MemberLaws
 pub mod NodeLaws
+pub mod TallyLaws
 pub mod WellRead
 pub mod WordLaws

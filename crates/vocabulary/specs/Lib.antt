@@ -5,4 +5,5 @@ pub mod Facts
 pub mod Nodes
 pub mod Report
 pub mod Steps
+pub mod Tallies
 pub mod inner

@@ -1,20 +1,38 @@
 // What stands beside the rows and the steps of an answer.
+use cells::limits::CONDITIONS;
 use cells::limits::TABLES;
 ghost use mathlib.Core.Path.{_≡_};
 ghost use Rattle.vocabulary.specs.Facts.{noFacts};
 
-// How many tables there are, and each one's set as bits; of a table that there is not, none.
+// How often a condition comes out true, false and unknown, over all pairs of rows of its two tables; of a K line over the rows of
+// its table.
+pub struct Tally {
+    pub holds: u32,
+    pub fails: u32,
+    pub unknown: u32,
+}
+
+// How many tables there are, and each one's set as bits; of a table that there is not, none. How many conditions there are, and how
+// often each is true, false, unknown; of a condition that there is not, 0.
 pub struct Facts {
     pub tables: usize,
     pub sets: [u64; TABLES],
+    pub conditions: usize,
+    pub holds: [u32; CONDITIONS],
+    pub fails: [u32; CONDITIONS],
+    pub unknown: [u32; CONDITIONS],
 }
 
-// After a refusal there is no table.
+// After a refusal there is no table and no condition.
 pub fn no_facts() -> Facts
     ensures { λ r. ⌜ r ≡ noFacts ⌝ }
 {
     Facts {
         tables: 0,
         sets: [0u64; TABLES],
+        conditions: 0,
+        holds: [0u32; CONDITIONS],
+        fails: [0u32; CONDITIONS],
+        unknown: [0u32; CONDITIONS],
     }
 }

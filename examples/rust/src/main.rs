@@ -1,4 +1,4 @@
-//! Prints the rows of a report through the wrapper, or, with --print, its whole print:
+//! Prints the counts of a report's conditions and its rows through the wrapper, or, with --print, its whole print:
 //!
 //!     rows [--print] FILE
 //!
@@ -7,7 +7,8 @@
 //!     rt staticlib capi
 //!     cargo run --release --manifest-path examples/rust/Cargo.toml -- samples/week.in
 //!
-//! A row is written as in the print: R and, for each table, a row number or - behind a tab.
+//! Both are written as in the print: U and, behind a tab each, a condition and how often it is true, false and unknown;
+//! R and, for each table, a row number or - behind a tab.
 //!
 //! Exit status 0: an answer was printed. 1: the text was refused, and E with the number was printed. 2: the arguments
 //! are wrong, the file could not be read, or the print could not be written; one line on standard error says which.
@@ -54,10 +55,14 @@ fn read(path: &OsStr) -> Result<Vec<u8>> {
     Ok(text)
 }
 
-/// Adds the R lines or the E line to a print, and tells whether the text was refused.
+/// Adds the U and R lines or the E line to a print, and tells whether the text was refused.
 fn add_rows(engine: &mut Engine, text: &[u8], print: &mut Vec<u8>) -> bool {
     match engine.report(text) {
         Ok(report) => {
+            for (condition, tally) in report.tallies().iter().enumerate() {
+                let counts = format!("{}\t{}\t{}", tally.holds, tally.fails, tally.unknown);
+                print.extend(format!("U\t{condition}\t{counts}\n").bytes());
+            }
             for row in report.rows() {
                 print.push(b'R');
                 for &number in row {

@@ -1,6 +1,7 @@
-//! Reports of document 01 joined by hash joins: the engine as one writes it without proofs.
+//! Reports of document 01 joined by hash joins, with the requests of document 02 that have landed: the engine as one
+//! writes it without proofs.
 //!
-//! It shares nothing with the proved engine but document 01, so that the two can be compared, and is what the
+//! It shares nothing with the proved engine but the documents, so that the two can be compared, and is what the
 //! proved engine's speed is measured against. All memory is lent by the caller.
 
 mod execute;
@@ -8,11 +9,14 @@ pub mod generate;
 pub mod lent;
 mod plan;
 mod print;
+mod tally;
 mod text;
 
 pub use print::{print_direct, print_report, write_direct, write_report};
+pub use tally::Tally;
 
 use execute::Executor;
+use tally::tallies;
 use text::Query;
 
 // The limits of question 3, 6 and 2.
@@ -58,6 +62,9 @@ pub struct Rows {
     pub tables: usize,
     /// Each table's blanking set; all empty for the direct reading.
     pub sets: [u64; TABLES],
+    /// The count of conditions, and how often each is true, false and unknown; all 0 for the direct reading.
+    pub conditions: usize,
+    pub tallies: [Tally; CONDITIONS],
 }
 
 /// The rows, or the number of the question that turned the text down.
@@ -113,7 +120,8 @@ fn run_plan(text: &[u8], cells: &mut [i32], work: &mut [u16], result: &mut [u16]
         }
     }
     let rows = executor.finish(result);
-    Ok(Rows { rows, tables: query.tables.len(), sets })
+    let (tables, conditions) = (query.tables.len(), query.conditions.len());
+    Ok(Rows { rows, tables, sets, conditions, tallies: tallies(&query, cells) })
 }
 
 fn run_tree(text: &[u8], cells: &mut [i32], work: &mut [u16], result: &mut [u16]) -> Answer {
@@ -126,7 +134,8 @@ fn run_tree(text: &[u8], cells: &mut [i32], work: &mut [u16], result: &mut [u16]
         executor.join(node, &Step { kind, first, second, rows: 0, conditions: join.conditions })?;
     }
     let rows = executor.finish(result);
-    Ok(Rows { rows, tables: query.tables.len(), sets: [0; TABLES] })
+    let tallies = [Tally::default(); CONDITIONS];
+    Ok(Rows { rows, tables: query.tables.len(), sets: [0; TABLES], conditions: 0, tallies })
 }
 
 /// The positions of the bits that are set, rising.

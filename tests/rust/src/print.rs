@@ -31,6 +31,14 @@ pub fn write_report(answer: &Answer, steps: &[Step], result: &[u16], print: &mut
             field(table, print);
             end(set, print);
         }
+        for (condition, tally) in rows.tallies[..rows.conditions].iter().enumerate() {
+            print.push(b'U');
+            field(condition, print);
+            for count in [tally.holds, tally.fails, tally.unknown] {
+                field(count as usize, print);
+            }
+            print.push(b'\n');
+        }
         steps.iter().take_while(|step| step.kind != 0).for_each(|step| write_step(step, print));
     }
     write_direct(answer, result, print);
@@ -85,10 +93,10 @@ fn end(conditions: u64, print: &mut Vec<u8>) {
     print.push(b'\n');
 }
 
-/// A tab and a number of at most four digits.
+/// A tab and a number of at most five digits.
 fn field(number: usize, print: &mut Vec<u8>) {
     print.push(b'\t');
-    for power in [1000, 100, 10, 1] {
+    for power in [10000, 1000, 100, 10, 1] {
         if number >= power || power == 1 {
             print.push(b'0' + (number / power % 10) as u8);
         }

@@ -1,9 +1,9 @@
-//! Generated texts: the plan and the direct reading hand over the same rows (demand 3), every refusal occurs, and
-//! the lent memory ends as document 01 says.
+//! Generated texts: the plan and the direct reading hand over the same rows (demand 3), every refusal occurs, the lent
+//! memory ends as document 01 says, and the counts of each condition are those of all pairs looked at one by one.
 
 use hashjoin::generate::{each_fixed_text, each_random_text};
 use hashjoin::lent::{LEAST, Lent, MARK};
-use hashjoin::{Answer, BEST_MATCH, BLANKING, ROWS, STEPS, Step, TABLES};
+use hashjoin::{Answer, BEST_MATCH, BLANKING, ROWS, Rows, STEPS, Step, TABLES, Tally};
 
 const SEED: u64 = 1;
 const COUNT: usize = 40_000;
@@ -15,7 +15,7 @@ fn report_and_direct_agree() {
     let mut refused = [[0; QUESTIONS + 1]; 2];
     let mut kinds = [0; BEST_MATCH as usize + 1];
     let (mut only_report, mut only_direct, mut most_rows, mut most_steps) = (0, 0, 0, 0);
-    let mut texts = 0;
+    let (mut texts, mut conditions, mut highest) = (0, 0, Tally::default());
     let mut check = |text: &[u8]| {
         texts += 1;
         lent.iter_mut().for_each(|lent| lent.result.fill(MARK));
@@ -31,6 +31,12 @@ fn report_and_direct_agree() {
         }
         most_steps = most_steps.max(check_steps(&planned, &of_report.steps));
         of_report.steps.iter().for_each(|step| kinds[usize::from(step.kind)] += 1);
+        for tally in planned.iter().flat_map(|rows| check_tallies(rows, text)) {
+            conditions += 1;
+            highest.holds = highest.holds.max(tally.holds);
+            highest.fails = highest.fails.max(tally.fails);
+            highest.unknown = highest.unknown.max(tally.unknown);
+        }
         match (planned, read) {
             (Ok(planned), Ok(read)) => {
                 assert_eq!((planned.rows, planned.tables), (read.rows, read.tables), "{}", shown(text));
@@ -55,11 +61,70 @@ fn report_and_direct_agree() {
     println!("                                     direct {:?}", refused[1]);
     println!("answered by report alone {only_report}, by direct alone {only_direct}");
     println!("steps by kind {:?}; most steps {most_steps}, most rows {most_rows}", &kinds[1..]);
+    println!("conditions counted {conditions}; most of each {highest:?}");
     for (question, &count) in refused[0].iter().enumerate() {
         assert_eq!(count == 0, question == 1 || question == 10, "question {question}");
     }
     assert!(only_report > 0 && only_direct > 0 && most_rows == ROWS && most_steps == STEPS);
     assert!(kinds.iter().all(|&count| count > 0));
+    let pairs = (ROWS * ROWS) as u32;
+    assert_eq!(highest, Tally { holds: pairs, fails: pairs, unknown: pairs });
+}
+
+/// The counts of an answered text, which must be those of its lines, and nothing behind them.
+fn check_tallies<'a>(rows: &'a Rows, text: &[u8]) -> &'a [Tally] {
+    let (tallies, none) = rows.tallies.split_at(rows.conditions);
+    assert_eq!(tallies, counted(text), "{}", shown(text));
+    assert!(none.iter().all(|&tally| tally == Tally::default()));
+    tallies
+}
+
+/// Each C and K line of an answered text, put to every pair of rows, or every row.
+fn counted(text: &[u8]) -> Vec<Tally> {
+    // By table, row and column; a blank cell is None.
+    let mut tables: Vec<Vec<Vec<Option<i32>>>> = vec![];
+    let mut tallies = vec![];
+    for line in std::str::from_utf8(text).unwrap().lines() {
+        let (letter, fields) = line.split_once('\t').unwrap();
+        let fields: Vec<&str> = fields.split('\t').collect();
+        let column = |tables: &[Vec<Vec<_>>], at: usize| -> Vec<Option<i32>> {
+            let [table, column] = [at, at + 1].map(|at| fields[at].parse::<usize>().unwrap());
+            tables[table].iter().map(|row| row[column]).collect()
+        };
+        let second = match letter {
+            "T" => {
+                tables.push(vec![]);
+                continue;
+            }
+            "D" => {
+                tables.last_mut().unwrap().push(fields.iter().map(|field| field.parse().ok()).collect());
+                continue;
+            }
+            "C" => column(&tables, 3),
+            "K" => vec![fields[3].parse().ok()],
+            _ => continue,
+        };
+        let mut tally = Tally::default();
+        for &first in &column(&tables, 0) {
+            for &second in &second {
+                let (Some(first), Some(second)) = (first, second) else {
+                    tally.unknown += 1;
+                    continue;
+                };
+                let holds = match fields[2] {
+                    "<" => first < second,
+                    "=" => first == second,
+                    "<=" => first <= second,
+                    ">" => first > second,
+                    "<>" => first != second,
+                    _ => first >= second,
+                };
+                *if holds { &mut tally.holds } else { &mut tally.fails } += 1;
+            }
+        }
+        tallies.push(tally);
+    }
+    tallies
 }
 
 /// A plan and then zero steps; after a refusal zero steps only. Gives the plan's length.

@@ -1,7 +1,8 @@
-//! The trials of document 01, worked out by hand. In these texts a bar stands for a tab and a space ends a line.
+//! The trials of document 01 and of document 02's item 1, worked out by hand. In these texts a bar stands for a tab and
+//! a space ends a line.
 
 use hashjoin::lent::{LEAST, Lent, MARK};
-use hashjoin::{NO_ROW, Step, print_direct, print_report};
+use hashjoin::{NO_ROW, Step, Tally, print_direct, print_report};
 
 fn text(lines: &str) -> Vec<u8> {
     lines.split_whitespace().flat_map(|line| [&line.replace('|', "\t"), "\n"].concat().into_bytes()).collect()
@@ -36,21 +37,26 @@ fn document(tables: &str, order: &str) -> String {
 #[test]
 fn the_report_of_the_document() {
     let rows = "R|0|0|0 R|1|-|-";
+    let counts = "U|0|1|1|0 U|1|2|2|0";
     let steps = "M|L|0|1|2|1 M|L|3|2|2|0 B|1|0 Z";
-    prints(&document(TABLES, ORDER), &[SETS, steps, rows].join(" "), rows);
+    prints(&document(TABLES, ORDER), &[SETS, counts, steps, rows].join(" "), rows);
     let steps = "M|O|0|2|2 M|L|3|1|2|0|1 B|2|0|1 Z";
-    prints(&document(TABLES, OTHER_ORDER), &[SETS, steps, rows].join(" "), rows);
+    prints(&document(TABLES, OTHER_ORDER), &[SETS, counts, steps, rows].join(" "), rows);
 }
 
 #[test]
 fn a_table_emptied() {
+    let counts = "U|0|1|1|0 U|1|0|0|0";
     // Table 0 is preserved at the first pair and has no rows.
-    prints(&document(TABLES_0_EMPTY, ORDER), &[SETS, "M|L|0|1|0|1 M|L|3|2|0|0 B|1|0 Z"].join(" "), "");
+    prints(&document(TABLES_0_EMPTY, ORDER), &[SETS, counts, "M|L|0|1|0|1 M|L|3|2|0|0 B|1|0 Z"].join(" "), "");
     // The product keeps the row of table 2, which the blanking step takes away.
-    prints(&document(TABLES_0_EMPTY, OTHER_ORDER), &[SETS, "M|O|0|2|1 M|L|3|1|1|0|1 B|2|0|1 Z"].join(" "), "");
+    prints(&document(TABLES_0_EMPTY, OTHER_ORDER), &[SETS, counts, "M|O|0|2|1 M|L|3|1|1|0|1 B|2|0|1 Z"].join(" "), "");
+    let counts = "U|0|0|0|0 U|1|2|2|0";
     let rows = "R|0|-|- R|1|-|-";
-    prints(&document(TABLES_2_EMPTY, ORDER), &[SETS, "M|L|0|1|2|1 M|L|3|2|2|0 B|1|0 Z", rows].join(" "), rows);
-    prints(&document(TABLES_2_EMPTY, OTHER_ORDER), &[SETS, "M|O|0|2|2 M|L|3|1|2|0|1 B|2|0|1 Z", rows].join(" "), rows);
+    let steps = "M|L|0|1|2|1 M|L|3|2|2|0 B|1|0 Z";
+    prints(&document(TABLES_2_EMPTY, ORDER), &[SETS, counts, steps, rows].join(" "), rows);
+    let steps = "M|O|0|2|2 M|L|3|1|2|0|1 B|2|0|1 Z";
+    prints(&document(TABLES_2_EMPTY, OTHER_ORDER), &[SETS, counts, steps, rows].join(" "), rows);
 }
 
 #[test]
@@ -62,15 +68,57 @@ fn a_lone_table_and_none() {
 #[test]
 fn blank_is_unequal_to_nothing() {
     let rows = "R|0|0 R|1|-";
-    let print = ["S|0 S|1|0 M|L|0|1|2|0", rows].join(" ");
+    let print = ["S|0 S|1|0 U|0|1|0|1 M|L|0|1|2|0", rows].join(" ");
     prints("T|1 D|6 D|- T|1 D|5 J|L|0|1 C|0|0|<>|1|0", &print, rows);
-    prints("T|2 D|-|1 T|1 D|1 J|L|0|1 C|0|1|=|1|0 K|0|0|<>|5", "S|0 S|1|0|1 M|L|0|1|1|0 B|1|1 Z R|0|-", "R|0|-");
+    prints(
+        "T|2 D|-|1 T|1 D|1 J|L|0|1 C|0|1|=|1|0 K|0|0|<>|5",
+        "S|0 S|1|0|1 U|0|1|0|0 U|1|0|0|1 M|L|0|1|1|0 B|1|1 Z R|0|-",
+        "R|0|-",
+    );
+}
+
+#[test]
+fn counts_of_conditions() {
+    // Four pairs of six have a blank; the other two are 5 with 5 and 7 with 5.
+    let tables = "T|1 D|- D|5 D|7 T|1 D|- D|5";
+    for (operator, counts) in [("=", "1|1"), ("<>", "1|1"), ("<", "0|2"), ("<=", "1|1"), (">", "1|1"), (">=", "2|0")] {
+        let input = format!("{tables} J|L|0|1 C|0|0|=|1|0 C|0|0|<>|1|0 C|0|0|{operator}|1|0");
+        let print = format!("S|0 S|1|0|1|2 U|0|1|1|4 U|1|1|1|4 U|2|{counts}|4 M|L|0|1|3|0|1|2 R|0|- R|1|- R|2|-");
+        prints(&input, &print, "R|0|- R|1|- R|2|-");
+    }
+    // The same line twice, and read from the other side.
+    prints(
+        "T|1 D|1 D|2 T|1 D|2 J|I|0|1 C|0|0|<|1|0 C|0|0|<|1|0 C|1|0|>|0|0",
+        "S|0|0|1|2 S|1|0|1|2 U|0|1|1|0 U|1|1|1|0 U|2|1|1|0 M|I|0|1|1|0|1|2 R|0|0",
+        "R|0|0",
+    );
+    // A K line counts the rows of its table; a table without rows gives no pair.
+    prints(
+        "T|1 D|- D|5 T|1 J|L|0|1 C|0|0|=|1|0 K|0|0|<>|5 K|1|0|=|5",
+        "S|0 S|1|0|1|2 U|0|0|0|0 U|1|0|1|1 U|2|0|0|0 M|L|0|1|2|0 B|1|1|2 Z R|0|- R|1|-",
+        "R|0|- R|1|-",
+    );
+}
+
+#[test]
+fn counts_that_16_bits_do_not_hold() {
+    let column = |cell: &str| format!("T|1 {}", format!("D|{cell} ").repeat(256));
+    let counts = |first: &str, second: &str| {
+        let conditions = "J|I|0|1 C|0|0|=|1|0 C|0|0|<>|1|0 K|0|0|>=|1";
+        let print = print_report(&text(&format!("{}{}{conditions}", column(first), column(second))));
+        let print = String::from_utf8(print).unwrap().replace('\t', "|");
+        print.lines().filter(|line| line.starts_with('U')).collect::<Vec<_>>().join(" ")
+    };
+    assert_eq!(counts("1", "1"), "U|0|65536|0|0 U|1|0|65536|0 U|2|256|0|0");
+    assert_eq!(counts("1", "-"), "U|0|0|0|65536 U|1|0|0|65536 U|2|256|0|0");
+    assert_eq!(counts("-", "-1"), "U|0|0|0|65536 U|1|0|0|65536 U|2|0|0|256");
+    assert_eq!(counts("0", "-1"), "U|0|0|65536|0 U|1|65536|0|0 U|2|0|256|0");
 }
 
 #[test]
 fn the_lowest_cell() {
     let input = "T|1 D|-2147483647 T|1 D|-2147483646 J|I|0|1 C|0|0|<|1|0 K|0|0|=|-2147483647";
-    prints(input, "S|0|0|1 S|1|0|1 M|I|0|1|1|0 B|0|1 B|1|1 Z R|0|0", "R|0|0");
+    prints(input, "S|0|0|1 S|1|0|1 U|0|1|0|0 U|1|1|0|0 M|I|0|1|1|0 B|0|1 B|1|1 Z R|0|0", "R|0|0");
     refused("T|1 D|-2147483648", 2);
 }
 
@@ -80,7 +128,7 @@ fn a_tree_that_is_not_simplified() {
     refused(&[tables, "J|L|0|1 C|0|0|=|1|0 J|I|3|2 C|1|0|=|2|0"].join(" "), 8);
     prints(
         &[tables, "J|L|0|1 C|0|0|=|1|0 J|I|3|2 C|0|0|=|2|0"].join(" "),
-        "S|0|1 S|1|0|1 S|2|1 M|L|0|1|1|0 M|I|3|2|1|1 R|0|0|0",
+        "S|0|1 S|1|0|1 S|2|1 U|0|1|0|0 U|1|1|0|0 M|L|0|1|1|0 M|I|3|2|1|1 R|0|0|0",
         "R|0|0|0",
     );
 }
@@ -102,7 +150,7 @@ fn all_match(left: usize, right: usize) -> String {
 fn limits() {
     let lines = |print: Vec<u8>| print.split(|&byte| byte == b'\n').count() - 1;
     assert_eq!(lines(print_direct(&text(&all_match(16, 16)))), 256);
-    assert_eq!(lines(print_report(&text(&all_match(16, 16)))), 256 + 3);
+    assert_eq!(lines(print_report(&text(&all_match(16, 16)))), 256 + 4);
     refused(&all_match(16, 17), 11);
     assert_eq!(lines(print_direct(&text(&format!("T|1 {}", "D|0 ".repeat(256))))), 256);
     refused(&format!("T|1 {}", "D|0 ".repeat(257)), 3);
@@ -144,6 +192,9 @@ fn what_the_buffers_hold_afterwards() {
         let mut lent = Lent::marked(sizes);
         let rows = lent.report(&input).unwrap();
         assert_eq!((rows.rows, rows.tables, rows.sets), (2, 3, [0, 3, 3, 0, 0, 0, 0, 0]));
+        let tally = |holds, fails| Tally { holds, fails, unknown: 0 };
+        assert_eq!((rows.conditions, &rows.tallies[..2]), (2, &[tally(1, 1), tally(2, 2)][..]));
+        assert_eq!(rows.tallies[2..], [Tally::default(); 30]);
         let step = |kind, first, second, rows, conditions| Step { kind, first, second, rows, conditions };
         let plan = [step(2, 0, 1, 2, 2), step(2, 3, 2, 2, 1), step(4, 1, 0, 0, 1), step(5, 0, 0, 0, 0)];
         assert_eq!(lent.steps[..4], plan);
@@ -155,6 +206,7 @@ fn what_the_buffers_hold_afterwards() {
         let mut lent = Lent::marked(sizes);
         let rows = lent.direct(&input).unwrap();
         assert_eq!((rows.rows, rows.sets), (2, [0; 8]));
+        assert_eq!((rows.conditions, rows.tallies), (0, [Tally::default(); 32]));
         assert_eq!(lent.result[..6], numbers);
         assert!(lent.result[6..].iter().all(|&number| number == MARK));
         assert!(cleared(&lent));

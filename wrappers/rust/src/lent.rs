@@ -9,7 +9,7 @@ pub const WORK: usize = 16384;
 /// The least length of the result buffer.
 pub const RESULT: usize = 2048;
 /// The least length of the answer of [`report`].
-pub const ANSWER: usize = 92;
+pub const ANSWER: usize = 189;
 /// The least length of the answer of [`direct`].
 pub const DIRECT_ANSWER: usize = 2;
 /// The least length of the output of the prints.
@@ -34,6 +34,10 @@ pub const AT_STATUS: usize = 3;
 pub const AT_SETS: usize = 4;
 /// Where the steps begin.
 pub const AT_STEPS: usize = 12;
+/// The count of conditions.
+pub const AT_CONDITIONS: usize = 92;
+/// Where the counts of the conditions begin, by rising number.
+pub const AT_TALLIES: usize = 93;
 
 // The places of a step.
 
@@ -49,6 +53,17 @@ pub const STEP_SECOND: usize = 2;
 pub const STEP_ROWS: usize = 3;
 /// Bit k is condition k.
 pub const STEP_CONDITIONS: usize = 4;
+
+// The places of a condition's counts.
+
+/// How many numbers a condition has.
+pub const TALLY_NUMBERS: usize = 3;
+/// How often it is true.
+pub const TALLY_TRUE: usize = 0;
+/// How often it is false.
+pub const TALLY_FALSE: usize = 1;
+/// How often it is unknown.
+pub const TALLY_UNKNOWN: usize = 2;
 
 /// A routine of the library: the text and four buffers, each as a pointer and a count.
 macro_rules! routine {
@@ -98,8 +113,8 @@ macro_rules! routine {
 
 routine! {
     /// The report: 0 for an answer, the number of a refusal, or [`NO_ROOM`]. `answer` begins with the counts of rows,
-    /// tables and steps and the status; then eight sets and sixteen steps. After a refusal, by question 1 too, these
-    /// are 0, but for the status.
+    /// tables and steps and the status; then eight sets and sixteen steps; then the count of conditions and three
+    /// counts for each of 32 conditions. After a refusal, by question 1 too, these are 0, but for the status.
     report, rumbethola_report, answer: u64, u8
 }
 

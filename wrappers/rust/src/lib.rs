@@ -19,9 +19,8 @@
 //!
 //! # Stack
 //!
-//! A call needs [`STACK`] bytes of the thread's stack, 128 KiB. The routines of the report take less than 48 KiB of
-//! them and those of the direct reading less than 64 KiB; the rest is for this wrapper and to spare. That is measured
-//! (`tests/capi/check`), not proved. Where the stack is too small the process is ended, as by any stack overflow.
+//! A call needs [`STACK`] bytes of the thread's stack, 128 KiB. Each routine takes less than 64 KiB of them; the rest is
+//! for this wrapper and to spare. That is measured (`tests/capi/check`), not proved. Where the stack is too small the process is ended, as by any stack overflow.
 //!
 //! The main thread and the threads of [`std::thread::spawn`] have enough (8 MiB and 2 MiB, where nobody sets
 //! `ulimit -s` or `RUST_MIN_STACK` to less). A thread with a stack of a size of its own is given [`STACK`] bytes
@@ -46,6 +45,8 @@ pub const TEXT: usize = 16384;
 pub const TABLES: usize = 8;
 /// The most steps of a plan.
 pub const STEPS: usize = 16;
+/// The most conditions of a report.
+pub const CONDITIONS: usize = 32;
 /// The row number of a table that is blank in a row.
 pub const BLANK: u16 = u16::MAX;
 
@@ -72,6 +73,16 @@ pub struct Step {
     pub rows: u16,
     /// Bit k is condition k.
     pub conditions: u64,
+}
+
+/// How often a condition is true, false and unknown, over all pairs of a row of its one table and a row of its other
+/// table; of a K line, over the rows of its table. It is unknown where a cell is blank. The three add up to the number
+/// of pairs.
+#[derive(Clone, Copy, Debug, PartialEq, Eq)]
+pub struct Tally {
+    pub holds: u32,
+    pub fails: u32,
+    pub unknown: u32,
 }
 
 /// The number of the question of document 01 that turned a text down, 2 to 11. It is never 1, since an [`Engine`]
@@ -112,6 +123,7 @@ impl<'a> Rows<'a> {
 pub struct Report<'a> {
     rows: Rows<'a>,
     sets: Vec<u64>,
+    tallies: Vec<Tally>,
     steps: Vec<Step>,
 }
 
@@ -119,6 +131,11 @@ impl<'a> Report<'a> {
     /// Each table's blanking set: bit k is condition k.
     pub fn sets(&self) -> &[u64] {
         &self.sets
+    }
+
+    /// Of each condition how often it is true, false and unknown.
+    pub fn tallies(&self) -> &[Tally] {
+        &self.tallies
     }
 
     /// The plan.
@@ -164,13 +181,15 @@ impl Engine {
     pub fn report(&mut self, text: &[u8]) -> Result<Report<'_>, Refused> {
         let mut answer = [0; lent::ANSWER];
         let status = lent::report(text, &mut self.cells, &mut self.work, &mut self.result, &mut answer);
-        let [rows, tables, count] =
-            [lent::AT_ROWS, lent::AT_TABLES, lent::AT_COUNT].map(|place| answer[place] as usize);
+        let [rows, tables, count, conditions] =
+            [lent::AT_ROWS, lent::AT_TABLES, lent::AT_COUNT, lent::AT_CONDITIONS].map(|place| answer[place] as usize);
         let steps = answer[lent::AT_STEPS..].chunks_exact(lent::STEP_NUMBERS).take(count);
+        let tallies = answer[lent::AT_TALLIES..].chunks_exact(lent::TALLY_NUMBERS).take(conditions);
         match status {
             0 => Ok(Report {
                 rows: Rows { tables, numbers: &self.result[..rows * tables] },
                 sets: answer[lent::AT_SETS..][..tables].to_vec(),
+                tallies: tallies.map(tally).collect(),
                 steps: steps.map(step).collect(),
             }),
             question => Err(Refused { question }),
@@ -201,6 +220,12 @@ impl Engine {
         let bytes = lent::print_direct(text, &mut self.cells, &mut self.work, &mut self.result, &mut self.out);
         &self.out[..bytes as usize]
     }
+}
+
+fn tally(numbers: &[u64]) -> Tally {
+    let [holds, fails, unknown] =
+        [lent::TALLY_TRUE, lent::TALLY_FALSE, lent::TALLY_UNKNOWN].map(|place| numbers[place] as u32);
+    Tally { holds, fails, unknown }
 }
 
 fn step(numbers: &[u64]) -> Step {

@@ -2,11 +2,15 @@
 
 mod texts;
 
-use rumbethola::{BLANK, Engine, Kind, Refused, Report, Rows, STEPS, Step, TABLES, TEXT};
+use rumbethola::{BLANK, CONDITIONS, Engine, Kind, Refused, Report, Rows, STEPS, Step, TABLES, TEXT, Tally};
 use std::thread;
 
 fn step(kind: Kind, first: u8, second: u8, rows: u16, conditions: u64) -> Step {
     Step { kind, first, second, rows, conditions }
+}
+
+fn tally(holds: u32, fails: u32, unknown: u32) -> Tally {
+    Tally { holds, fails, unknown }
 }
 
 #[test]
@@ -16,6 +20,7 @@ fn the_report_of_document_01() {
     let report = engine.report(&text).unwrap();
     assert_eq!(report.tables(), 3);
     assert_eq!(report.sets(), [0, 0b11, 0b11]);
+    assert_eq!(report.tallies(), [tally(1, 1, 0), tally(2, 2, 0)]);
     assert_eq!(
         report.steps(),
         [
@@ -31,7 +36,7 @@ fn the_report_of_document_01() {
     assert!(rows.rows().eq([[0, 0, 0], [1, BLANK, BLANK]]));
     assert_eq!(
         engine.print_report(&text),
-        texts::bytes("S|0 S|1|0|1 S|2|0|1 M|L|0|1|2|1 M|L|3|2|2|0 B|1|0 Z R|0|0|0 R|1|-|-")
+        texts::bytes("S|0 S|1|0|1 S|2|0|1 U|0|1|1|0 U|1|2|2|0 M|L|0|1|2|1 M|L|3|2|2|0 B|1|0 Z R|0|0|0 R|1|-|-")
     );
     assert_eq!(engine.print_direct(&text), texts::bytes("R|0|0|0 R|1|-|-"));
 }
@@ -63,11 +68,26 @@ fn an_inner_join_above_an_outer_one() {
     assert_eq!(report, Ok((vec![0b10, 0b11, 0b10], steps)));
 }
 
+/// Conditions that are unknown: cells that are blank, a K line, a table without rows, and as many pairs as there may be.
+#[test]
+fn true_false_and_unknown() {
+    let mut engine = Engine::new();
+    let mut tallies = |lines: &str| engine.report(&texts::bytes(lines)).unwrap().tallies().to_vec();
+    assert_eq!(tallies("T|1 D|1 D|2 T|1 D|- D|1 J|I|0|1 C|1|0|<>|0|0"), [tally(1, 1, 2)]);
+    let empty = "T|1 T|1 D|1 D|- J|L|1|0 C|0|0|=|1|0 K|1|0|<>|1";
+    assert_eq!(tallies(empty), [tally(0, 0, 0), tally(0, 1, 1)]);
+    let blanks = "D|- ".repeat(256);
+    assert_eq!(tallies(&format!("T|1 {blanks}T|1 {blanks}J|L|0|1 C|0|0|=|1|0")), [tally(0, 0, 65536)]);
+    let most = "C|0|0|<|1|0 ".repeat(CONDITIONS);
+    assert_eq!(tallies(&format!("T|1 D|1 T|1 D|2 J|I|0|1 {most}")), [tally(1, 0, 0); CONDITIONS]);
+}
+
 #[test]
 fn no_rows() {
     let mut engine = Engine::new();
     let text = texts::bytes("T|1");
-    assert_eq!(engine.report(&text).unwrap().rows().len(), 0);
+    let report = engine.report(&text).unwrap();
+    assert_eq!((report.rows().len(), report.tallies()), (0, &[][..]));
     let rows = engine.direct(&text).unwrap();
     assert_eq!((rows.tables(), rows.rows().len()), (1, 0));
     assert_eq!(engine.print_report(&text), b"S\t0\n");
@@ -130,9 +150,13 @@ fn report_lines(answer: Result<Report, Refused>) -> Vec<u8> {
         Err(refused) => return refusal_line(refused),
     };
     assert!(report.sets().len() == report.tables() && report.tables() <= TABLES && report.steps().len() <= STEPS);
+    assert!(report.tallies().len() <= CONDITIONS);
     let mut lines = String::new();
     for (table, &set) in report.sets().iter().enumerate() {
         lines += &format!("S\t{table}{}\n", conditions(set));
+    }
+    for (condition, tally) in report.tallies().iter().enumerate() {
+        lines += &format!("U\t{condition}\t{}\t{}\t{}\n", tally.holds, tally.fails, tally.unknown);
     }
     for step in report.steps() {
         lines += &match step.kind {

@@ -1,6 +1,6 @@
 //! The numbers that include/rumbethola.h and this wrapper name are the same.
 
-use rumbethola::{BLANK, Kind, STACK, STEPS, TABLES, TEXT, lent};
+use rumbethola::{BLANK, CONDITIONS, Kind, STACK, STEPS, TABLES, TEXT, lent};
 use std::collections::BTreeMap;
 
 /// The numbers that the header defines, by their names without the prefix.
@@ -25,16 +25,19 @@ fn defined() -> BTreeMap<String, u64> {
 fn the_same_numbers() {
     let ours = [
         ("ANSWER", lent::ANSWER as u64),
+        ("AT_CONDITIONS", lent::AT_CONDITIONS as u64),
         ("AT_COUNT", lent::AT_COUNT as u64),
         ("AT_ROWS", lent::AT_ROWS as u64),
         ("AT_SETS", lent::AT_SETS as u64),
         ("AT_STATUS", lent::AT_STATUS as u64),
         ("AT_STEPS", lent::AT_STEPS as u64),
         ("AT_TABLES", lent::AT_TABLES as u64),
+        ("AT_TALLIES", lent::AT_TALLIES as u64),
         ("BEST_MATCH", Kind::BestMatch as u64),
         ("BLANK", BLANK.into()),
         ("BLANKING", Kind::Blanking as u64),
         ("CELLS", lent::CELLS as u64),
+        ("CONDITIONS", CONDITIONS as u64),
         ("DIRECT_ANSWER", lent::DIRECT_ANSWER as u64),
         ("INNER", Kind::Inner as u64),
         ("NO_PRINT", lent::NO_PRINT.into()),
@@ -52,8 +55,21 @@ fn the_same_numbers() {
         ("STEP_ROWS", lent::STEP_ROWS as u64),
         ("STEP_SECOND", lent::STEP_SECOND as u64),
         ("TABLES", TABLES as u64),
+        ("TALLY_FALSE", lent::TALLY_FALSE as u64),
+        ("TALLY_NUMBERS", lent::TALLY_NUMBERS as u64),
+        ("TALLY_TRUE", lent::TALLY_TRUE as u64),
+        ("TALLY_UNKNOWN", lent::TALLY_UNKNOWN as u64),
         ("TEXT", TEXT as u64),
         ("WORK", lent::WORK as u64),
     ];
     assert_eq!(ours.map(|(name, number)| (name.into(), number)).into_iter().collect::<BTreeMap<_, _>>(), defined());
+}
+
+/// The parts of an answer stand one behind the other and fill it.
+#[test]
+fn the_places_of_an_answer() {
+    assert_eq!(lent::AT_SETS + TABLES, lent::AT_STEPS);
+    assert_eq!(lent::AT_STEPS + STEPS * lent::STEP_NUMBERS, lent::AT_CONDITIONS);
+    assert_eq!(lent::AT_CONDITIONS + 1, lent::AT_TALLIES);
+    assert_eq!(lent::AT_TALLIES + CONDITIONS * lent::TALLY_NUMBERS, lent::ANSWER);
 }

@@ -9,6 +9,8 @@ use texts::BLANK;
 const BEHIND: usize = 8;
 /// A number that no call writes: no row, count, set, letter or digit.
 const MARK: u8 = 201;
+/// How many numbers an answer of the report has.
+const ANSWER: usize = 189;
 
 #[derive(Clone, Copy, Debug, PartialEq)]
 enum Routine {
@@ -24,7 +26,7 @@ impl Routine {
     /// The least lengths: cells, work, result, and the buffer that is handed over in.
     fn least(self) -> [usize; 4] {
         let last = match self {
-            Routine::Report => 92,
+            Routine::Report => ANSWER,
             Routine::Direct => 2,
             Routine::PrintReport | Routine::PrintDirect => 32768,
         };
@@ -99,7 +101,7 @@ impl Memory {
 
     /// The same of a refusal.
     fn hand_over_refusal(&mut self, routine: Routine, question: u8) -> u32 {
-        let mut numbers = [0; 92];
+        let mut numbers = [0; ANSWER];
         numbers[3] = question.into();
         let print = format!("E\t{question}\n").into_bytes();
         self.hand_over(routine, question, &numbers, &[0, 0], [&print, &print])
@@ -180,13 +182,15 @@ fn c_a_question_turns_the_text_down() {
 /// The report of document 01, with the numbers that its print has.
 #[test]
 fn d_there_is_an_answer() {
-    let mut numbers = [0; 92];
+    let mut numbers = [0; ANSWER];
     numbers[..7].copy_from_slice(&[2, 3, 4, 0, 0, 0b11, 0b11]);
     numbers[12..17].copy_from_slice(&[2, 0, 1, 2, 0b10]);
     numbers[17..22].copy_from_slice(&[2, 3, 2, 2, 0b01]);
     numbers[22..27].copy_from_slice(&[4, 1, 0, 0, 0b01]);
     numbers[27] = 5;
-    let report = texts::bytes("S|0 S|1|0|1 S|2|0|1 M|L|0|1|2|1 M|L|3|2|2|0 B|1|0 Z R|0|0|0 R|1|-|-");
+    numbers[92..99].copy_from_slice(&[2, 1, 1, 0, 2, 2, 0]);
+    let report =
+        texts::bytes("S|0 S|1|0|1 S|2|0|1 U|0|1|1|0 U|1|2|2|0 M|L|0|1|2|1 M|L|3|2|2|0 B|1|0 Z R|0|0|0 R|1|-|-");
     let direct = texts::bytes("R|0|0|0 R|1|-|-");
     for routine in ROUTINES {
         for more in [0, 5] {

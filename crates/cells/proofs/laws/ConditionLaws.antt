@@ -1,6 +1,6 @@
 -- What a condition's truth in a row depends on, whatever the tables hold: conditions are strict and local. Assumes nothing.
 use mathlib.Core.Path.{_≡_, refl, subst, ap₂}
-use mathlib.Core.Bool.{true, false}
+use mathlib.Core.Bool.{true, false, _||_}
 use mathlib.Core.List.{List·Memᴰ, List·Memᴰ·head, List·Memᴰ·tail, List·Memᴰ·cases-cons, List·Memᴰ·not-nil}
 use mathlib.Core.Logic.{⊎-elim}
 use Prim.Native.Nat.{ℕ}
@@ -8,10 +8,10 @@ use lib.Dec.{T}
 use lib.IntN.{ℤ}
 use borrow.Author.Tests.{eq-eqb}
 use Rattle.cells.specs.Cell.{eqZ, blankCell, isBlank}
-use Rattle.cells.specs.Operator.{holds}
-use Rattle.cells.proofs.laws.OperatorLaws.{holds-left, holds-right}
+use Rattle.cells.specs.Operator.{isUnknown, holds}
+use Rattle.cells.proofs.laws.OperatorLaws.{holds-left, holds-right, unknown-blank}
 use Rattle.cells.specs.Row.{Row, blankRow, at}
-use Rattle.cells.specs.Condition.{Cells, cellIn, sideIn, trueIn, sideNames, namesOf}
+use Rattle.cells.specs.Condition.{Cells, cellIn, sideIn, truthIn, trueIn, sideNames, namesOf}
 use Rattle.cells.specs.declared.condition.Condition.{Condition}
 use Rattle.cells.specs.declared.condition.Side.{Side}
 use Rattle.cells.specs.declared.condition.Side.the-variants.{Column, Constant}
@@ -59,10 +59,21 @@ module _ (cells : Cells) where
   unfolding sideIn
   side-constant row d z e = rw e
 
+  -- true in a row: true of its two cells
+  pub true-holds : (k : Condition) (row : Row) → trueIn cells k row ≡ holds (k .operator) (cellIn cells row (k .table) (k .column)) (sideIn cells row (k .side))
+  unfolding trueIn truthIn holds
+  true-holds k row = refl
+
+  -- unknown in a row exactly where a blank takes part: a cell of either side, or a table that is blank in the row
+  pub unknown-in : (k : Condition) (row : Row)
+      → isUnknown (truthIn cells k row) ≡ (isBlank (cellIn cells row (k .table) (k .column)) || isBlank (sideIn cells row (k .side)))
+  unfolding truthIn
+  unknown-in k row = unknown-blank (k .operator) (cellIn cells row (k .table) (k .column)) (sideIn cells row (k .side))
+
   -- strict: a condition that is true in a row has no table, of those that it names, blank there
   pub true-strict :
       (k : Condition) (row : Row) → T (trueIn cells k row) → (u : ℕ) → List·Memᴰ u (namesOf k) → at row u ≡ blankRow → ⊥
-  unfolding trueIn namesOf
+  unfolding trueIn truthIn holds namesOf
   true-strict k row t u m e =
       let x = cellIn cells row (k .table) (k .column) in
       let y = sideIn cells row (k .side) in
@@ -76,7 +87,7 @@ module _ (cells : Cells) where
       (r s : Row)
       → ((u : ℕ) → List·Memᴰ u (namesOf k) → at r u ≡ at s u)
       → trueIn cells k r ≡ trueIn cells k s
-  unfolding trueIn namesOf
+  unfolding trueIn truthIn holds namesOf
   true-local k r s h =
       ap₂ (holds (k .operator)) (cell-local r s (k .table) (k .column) (h (k .table) (List·Memᴰ·head refl)))
       (side-local r s (k .side) (λ u m. h u (List·Memᴰ·tail m)))

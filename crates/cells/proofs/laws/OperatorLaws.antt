@@ -1,5 +1,5 @@
 -- What holds of all operators, over their codes: what they allow, blank cells, complements and mirrors. Assumes nothing.
-use mathlib.Core.Path.{_≡_, refl, _∙_, ap, sym}
+use mathlib.Core.Path.{_≡_, refl, _∙_, ap, sym, subst}
 use mathlib.Core.Logic.{_⊎_, ⊎-elim}
 use mathlib.Core.Bool.{Bool, true, false, not, _||_, or-comm, _&&_, and-false, and-comm}
 use mathlib.Core.List.{List, [], _∷_}
@@ -9,15 +9,16 @@ use lib.Dec.{ltb, leb, eqb, lit<, T}
 use lib.IntN.{ℤ, pos, negsuc}
 use lib.ListN.{getD, List·getD-map, List·getD-eq-default}
 use lib.Signed.{ltZ, leZ}
-use borrow.Author.Tests.{ltb-true, ltb-false, le-leb, lt-leb, eq-eqb, ne-eqb, le-ltb}
+use borrow.Author.Tests.{eqb-true, ltb-true, ltb-false, le-leb, lt-leb, eq-eqb, ne-eqb, le-ltb}
 use Rattle.cells.specs.Choice.{if_then_else_}
 use Rattle.cells.proofs.laws.BoolLaws.{is-false}
 use Rattle.cells.proofs.laws.Below.{and-left, and-right, agree}
-use Rattle.cells.specs.Cell.{eqZ, isBlank}
-use Rattle.cells.specs.Operator.{never, operators, says, columnOf, orderingOf, holds, mirrorOf}
+use Rattle.cells.specs.Cell.{eqZ, isBlank, blankCell}
+use Rattle.cells.specs.Operator.{never, operators, says, columnOf, orderingOf, truthOf, isTrue, isFalse, isUnknown, holds, mirrorOf}
 use Rattle.cells.specs.inner.Orderings.{allowed}
 use Rattle.cells.specs.declared.operator.Ordering.{Ordering}
 use Rattle.cells.specs.declared.operator.Ordering.the-variants.{Less, Equal, Greater}
+use Rattle.cells.specs.declared.operator.Truth.the-variants.{True, False, Unknown}
 
 -- ---- the tests of two numbers, by "less"
 
@@ -112,40 +113,91 @@ says-outside op x y h = ⊎-elim (λ l. none op l) (λ l. rw (List·getD-eq-defa
     none : (n : ℕ) → n < 1 → getD operators n never x y ≡ false
     none n l = let e : n ≡ 0 = omega arith in rw e
 
+-- a condition by its tests
+holds-tests : (op : ℕ) (x y : ℤ) → holds op x y ≡ (not (isBlank x) && not (isBlank y) && says op x y)
+unfolding holds truthOf isTrue
+holds-tests op x y = by (isBlank x) (isBlank y) (says op x y)
+  where
+    by : (a b s : Bool) → isTrue (if a || b then Unknown else if s then True else False) ≡ (not a && not b && s)
+    by true b s = refl
+    by false true s = refl
+    by false false true = refl
+    by false false false = refl
+
 pub holds-outside : (op : ℕ) (x y : ℤ) → (op < 1) ⊎ (6 < op) → holds op x y ≡ false
-unfolding holds
-holds-outside op x y h = rw (says-outside op x y h) (and-false (not (isBlank x) && not (isBlank y)))
+holds-outside op x y h = holds-tests op x y ∙ rw (says-outside op x y h) (and-false (not (isBlank x) && not (isBlank y)))
 
 -- a true condition has no blank cell, under any operator
+tests-true : (op : ℕ) (x y : ℤ) → T (holds op x y) → T (not (isBlank x) && not (isBlank y) && says op x y)
+tests-true op x y t = subst T (holds-tests op x y) t
+
 pub holds-left : (op : ℕ) (x y : ℤ) → T (holds op x y) → isBlank x ≡ false
-unfolding holds
 holds-left op x y t =
     is-false (isBlank x)
-    (and-left (not (isBlank x)) (not (isBlank y)) (and-left (not (isBlank x) && not (isBlank y)) (says op x y) t))
+    (and-left (not (isBlank x)) (not (isBlank y)) (and-left (not (isBlank x) && not (isBlank y)) (says op x y) (tests-true op x y t)))
 
 pub holds-right : (op : ℕ) (x y : ℤ) → T (holds op x y) → isBlank y ≡ false
-unfolding holds
 holds-right op x y t =
     is-false (isBlank y)
-    (and-right (not (isBlank x)) (not (isBlank y)) (and-left (not (isBlank x) && not (isBlank y)) (says op x y) t))
+    (and-right (not (isBlank x)) (not (isBlank y)) (and-left (not (isBlank x) && not (isBlank y)) (says op x y) (tests-true op x y t)))
 
--- a condition by its tests
 pub holds-by :
     (op : ℕ) (x y : ℤ) (a b : Bool) → isBlank x ≡ a → isBlank y ≡ b → holds op x y ≡ (not a && not b && says op x y)
-unfolding holds
-holds-by op x y a b p q = rw (p, q)
+holds-by op x y a b p q = holds-tests op x y ∙ rw (p, q)
 
 pub holds-blank-left : (op : ℕ) (x y : ℤ) → isBlank x ≡ true → holds op x y ≡ false
-unfolding holds
-holds-blank-left op x y p = rw p
+holds-blank-left op x y p = holds-by op x y true (isBlank y) p refl
 
 pub holds-blank-right : (op : ℕ) (x y : ℤ) → isBlank y ≡ true → holds op x y ≡ false
-unfolding holds
-holds-blank-right op x y p = rw p (none (not (isBlank x)))
+holds-blank-right op x y p = holds-by op x y (isBlank x) true refl p ∙ none (not (isBlank x))
   where
     none : (t : Bool) → (t && false && says op x y) ≡ false
     none true = refl
     none false = refl
+
+-- ---- `=` as one test
+
+pub eqZ-true : (x y : ℤ) → eqZ x y ≡ true → x ≡ y
+unfolding eqZ
+eqZ-true (pos a) (pos b) e = ap pos (eqb-true a b e)
+eqZ-true (pos a) (negsuc b) e = absurd (subst T (sym e) tt)
+eqZ-true (negsuc a) (pos b) e = absurd (subst T (sym e) tt)
+eqZ-true (negsuc a) (negsuc b) e = ap negsuc (eqb-true a b e)
+
+-- where the number is not blank
+pub holds-equal : (x y : ℤ) → isBlank x ≡ false → holds 2 x y ≡ eqZ x y
+unfolding says operators isBlank
+holds-equal x y h = go (isBlank y) refl
+  where
+    go : (b : Bool) → isBlank y ≡ b → holds 2 x y ≡ eqZ x y
+    go true e = holds-blank-right 2 x y e ∙ sym (ap (eqZ x) (eqZ-true y blankCell e) ∙ h)
+    go false e = holds-by 2 x y false false h e
+
+-- ---- how a condition comes out
+
+-- a blank cell on either side: unknown
+pub truth-blank-left : (op : ℕ) (x y : ℤ) → isBlank x ≡ true → truthOf op x y ≡ Unknown
+unfolding truthOf
+truth-blank-left op x y p = rw p
+
+pub truth-blank-right : (op : ℕ) (x y : ℤ) → isBlank y ≡ true → truthOf op x y ≡ Unknown
+unfolding truthOf
+truth-blank-right op x y p = rw (p, or-comm (isBlank x) true)
+
+-- no blank cell: what the operator says
+pub truth-filled : (op : ℕ) (x y : ℤ) (s : Bool) → isBlank x ≡ false → isBlank y ≡ false → says op x y ≡ s → truthOf op x y ≡ (if s then True else False)
+unfolding truthOf
+truth-filled op x y s p q e = rw (p, q, e)
+
+-- unknown exactly where a blank takes part
+pub unknown-blank : (op : ℕ) (x y : ℤ) → isUnknown (truthOf op x y) ≡ (isBlank x || isBlank y)
+unfolding truthOf isUnknown
+unknown-blank op x y = by (isBlank x || isBlank y) (says op x y)
+  where
+    by : (b s : Bool) → isUnknown (if b then Unknown else if s then True else False) ≡ b
+    by true s = refl
+    by false true = refl
+    by false false = refl
 
 -- each operator's complement has the code 7 - op
 opposite : (o k : ℕ) → 0 < o → o ≤ 6 → k < 3 → says (7 - o) (pos k) (pos 1) ≡ not (says o (pos k) (pos 1))
@@ -181,5 +233,15 @@ says-mirror op x y p h =
     ∙ sym (says-alike op y x (pos 1) (pos (columnOf (orderingOf x y))) (column-less x y .1) (column-less x y .0))
 
 pub holds-mirror : (op : ℕ) (x y : ℤ) → 0 < op → op ≤ 6 → holds (mirrorOf op) x y ≡ holds op y x
-unfolding holds
-holds-mirror op x y p h = rw (says-mirror op x y p h, and-comm (not (isBlank x)) (not (isBlank y)))
+holds-mirror op x y p h =
+    holds-tests (mirrorOf op) x y ∙ rw (says-mirror op x y p h, and-comm (not (isBlank x)) (not (isBlank y))) (sym (holds-tests op y x))
+
+-- an operator comes out true exactly where its complement comes out false
+pub truth-complement : (op : ℕ) → 0 < op → op ≤ 6 → (x y : ℤ) → isTrue (truthOf op x y) ≡ isFalse (truthOf (7 - op) x y)
+unfolding truthOf isTrue isFalse
+truth-complement op h k x y = rw (says-complement op x y h k) (by (isBlank x || isBlank y) (says op x y))
+  where
+    by : (b s : Bool) → isTrue (if b then Unknown else if s then True else False) ≡ isFalse (if b then Unknown else if not s then True else False)
+    by true s = refl
+    by false true = refl
+    by false false = refl

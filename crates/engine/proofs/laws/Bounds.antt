@@ -9,7 +9,7 @@ use lib.Dec.{T, leb, eqb}
 use lib.ListN.{length, length-map, length-append}
 use mir.Facts.{and-yes, leb-yes, eqb-yes}
 use Rattle.cells.specs.Choice.{if_then_else_}
-use Rattle.cells.specs.Limits.{mostTables, mostRows, mostCells, mostSteps}
+use Rattle.cells.specs.Limits.{mostTables, mostWritten, mostConditions, mostRows, mostCells, mostSteps}
 use Rattle.cells.specs.Row.{Row, blankRow}
 use Rattle.rows.specs.Lists.{any, distinct, keep, range, all, _isIn_}
 use Rattle.rows.proofs.laws.ListLaws.{keep-fewer, length-range, here}
@@ -25,12 +25,13 @@ use Rattle.vocabulary.proofs.laws.AskingLaws.{append-yes, first-yes, all-yes, f
 use Rattle.vocabulary.specs.Report.{Query, tableCount, tableNumbers, joinOrder, Table, Report, queryOf}
 use Rattle.vocabulary.specs.Nodes.{joinTrees, joinTree, lowerSides, sidesOf, noneTwice, wellBuilt}
 use Rattle.vocabulary.specs.Steps.{bestMatchStep, pairStep, blankingStep, bitsOf}
+use Rattle.vocabulary.specs.Tallies.{conditionTally, tallies}
 use Rattle.vocabulary.proofs.laws.WellRead.{WellRead}
 use Rattle.vocabulary.specs.Database.{databaseOf, rowCountIn, cellsOf, database}
 use Rattle.text.specs.Bytes.{Bytes}
 use Rattle.text.specs.Reading.{readReport}
 use Rattle.text.specs.TableQuestions.{cellsInTables, tableFits, question3}
-use Rattle.plan.specs.Questions.{question9, orderQuestions}
+use Rattle.plan.specs.Questions.{question6, question9, orderQuestions}
 use Rattle.plan.specs.Plan.{groundOf, plannedJoins, missing, asks, blankings, stepsOf, planTrees, planTree}
 use Rattle.plan.proofs.laws.PairWordLaws.{planned-count}
 use Rattle.plan.proofs.laws.PlanLaws.{plan-matched, order-built, plan-shaped}
@@ -126,6 +127,14 @@ module _ (r : Report) (well : WellRead (queryOf r)) (accepted : firstNo sharedQu
       let z : n ≤ mostTables = leb-yes y in
       omega (arith, z, length-map (r .tables) (λ (t : Table). t .columns))
 
+  -- at most as many conditions as memory has room for
+  pub conditions-few : length (tallies r) ≤ mostConditions
+  unfolding question6 tallies queryOf
+  conditions-few =
+      let (a, _) = and-yes (leb (length (r .conditions)) mostWritten) _ (ok .six) in
+      let z : length (r .conditions) ≤ mostWritten = leb-yes a in
+      omega (arith, z, length-map (r .conditions) (conditionTally (rowCountIn r) (cellsOf r)))
+
   few-each : (t : ℕ) → database r .rowCount t ≤ mostRows
   unfolding database databaseOf
   few-each t = rows-limit r three t
@@ -203,7 +212,8 @@ module _ (bs : Bytes) where
       (subst (Bounded (tableCount (queryOf r))) h
       (record { eight = tables-few r well x; few = direct-few r well x z; wide = direct-wide r well x }))
 
-  pub report-bounded : (a : ReportAnswer) → reportOutcome bs ≡ answered a → Bounded (length (a .sets)) (a .rows) × (length (a .steps) ≤ mostSteps)
+  pub report-bounded : (a : ReportAnswer) → reportOutcome bs ≡ answered a
+      → Bounded (length (a .sets)) (a .rows) × (length (a .steps) ≤ mostSteps) × (length (a .tallies) ≤ mostConditions)
   unfolding reportOutcome reportQuestions questionsOfReport orderQuestions reportAnswer
   report-bounded a e =
       let (r, f, g, h) = answered-report reportQuestions reportAnswer bs a e in
@@ -214,8 +224,9 @@ module _ (bs : Bytes) where
       let (z, _) = first-yes (11, λ (r : Report). question11 r) [] r k in
       let well = read-well bs r f in
       let n : tableCount q ≡ length (map bitsOf (blankingSets q)) = sym (length-map (blankingSets q) bitsOf ∙ blanking-proper q .each) in
-      subst (λ (b : ReportAnswer). Bounded (length (b .sets)) (b .rows) × (length (b .steps) ≤ mostSteps)) h (
+      subst (λ (b : ReportAnswer). Bounded (length (b .sets)) (b .rows) × (length (b .steps) ≤ mostSteps) × (length (b .tallies) ≤ mostConditions)) h (
         subst (λ (m : ℕ). Bounded m (reportRows r)) n
             (record { eight = tables-few r well x; few = report-few r well x nine z; wide = report-wide r well x nine }),
         steps-few r well x nine,
+        conditions-few r well x,
       )

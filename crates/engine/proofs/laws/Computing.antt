@@ -1,10 +1,10 @@
--- One name that opens every definition of document 01, for what antt computes: `unfolding computing` on a declaration. Assumes nothing.
+-- One name that opens every definition of documents 01 and 02, for what antt computes: `unfolding computing` on a declaration. Assumes nothing.
 use mathlib.Core.List.{flatMap, zipWith}
 use Rattle.cells.specs.Cell.{blankCell, lowestCell, highestCell, cellOf, eqZ, isBlank}
-use Rattle.cells.specs.Operator.{columnOf, orderingOf, never, operators, says, holds}
+use Rattle.cells.specs.Operator.{columnOf, orderingOf, never, operators, says, truthOf, isTrue, isFalse, isUnknown, holds}
 use Rattle.cells.specs.Row.{blankRow}
-use Rattle.cells.specs.Condition.{cellIn, sideIn, trueIn, sideNames, namesOf, ownCell, cellsIn}
-use Rattle.rows.specs.Lists.{range, all, any, keep, orElse, distinct, insert, sort, has}
+use Rattle.cells.specs.Condition.{cellIn, sideIn, truthIn, trueIn, sideNames, namesOf, ownCell, cellsIn}
+use Rattle.rows.specs.Lists.{range, all, any, keep, count, orElse, distinct, insert, sort, has}
 use Rattle.rows.specs.Rows.{single, over, merge, same, before, ordered, whollyBlank, within, dominated, bestMatch}
 use Rattle.rows.specs.Trees.{tablesUnder, outerProduct, allTrue, matches, joined, rowsOf}
 use Rattle.rows.specs.Nullification.{nullify, nullifyAll, finished, planRows}
@@ -13,6 +13,7 @@ use Rattle.vocabulary.specs.Nodes.{grown, tablesAt, tablesOfPair, nodesOf, join
 use Rattle.vocabulary.specs.Steps.{bitsOf, kindNumber, pairStep, blankingStep, bestMatchStep, zeroStep}
 use Rattle.vocabulary.specs.Bits.{hasBit}
 use Rattle.vocabulary.specs.Database.{databaseOf, tableAt, rowCountIn, cellsOf, database}
+use Rattle.vocabulary.specs.Tallies.{tallyOf, pairTruths, columnCells, sideCells, conditionTally, tallies}
 use Rattle.vocabulary.specs.Asking.{firstNo, about}
 use Rattle.text.specs.Bytes.{bytes, tab, lineFeed, sameBytes, cut, split, closed}
 use Rattle.text.specs.Numbers.{digit, decimal, valueOf, natural, small, positive, negative, number, ifMade, constant, cell}
@@ -20,7 +21,7 @@ use Rattle.text.specs.Lines.{kindOf, field, oneOf, end, both, readAll, word, nu
 use Rattle.text.specs.Reading.{beforeAll, opens, follows, next, placed, firstRows, tablesOf, firstConditions, joinsOf, conditionsOf, pairsOf, reportOf, ifPlaced, textLines, readReport}
 use Rattle.text.specs.LineParts.{also, picked, ofTables, ofJoins, ofOrder}
 use Rattle.text.specs.TableQuestions.{cellsInRows, cellsInTables, tableFits, question3, question4, tableQuestions}
-use Rattle.text.specs.Print.{digitsOf, printNumber, printFields, bitNumbers, printEntry, printSets, kindLetter, printStep, printRow, printRefusal}
+use Rattle.text.specs.Print.{digitsOf, printNumber, printFields, bitNumbers, printEntry, printSets, printTally, printTallies, kindLetter, printStep, printRow, printRefusal}
 use Rattle.plan.specs.Sets.{setOf, blanksLeft, blanksRight, taken, setAfter, setsAfter, setsBy, emptySets, blankingSets}
 use Rattle.plan.specs.Plan.{between, crosses, inEvery, usable, paired, fitsKind, orderNodes, usableAt, allIn, pairFits, planned, plannedJoins, planTrees, planTree, pairSets, appliedSets, missing, asks, blankings, stepsOf}
 use Rattle.plan.specs.Questions.{question5, noneOrBuilt, question9, columnExists, sideExists, conditionFits, question6, question7, rightSides, namesRightSide, question8, kindsFit, question10, queryQuestions, orderQuestions}
@@ -30,5 +31,5 @@ use Rattle.engine.specs.Answers.{reportQuestions, directQuestions, outco
 use Rattle.engine.specs.Programs.{printReport, printDirect, reportProgram, directProgram}
 
 unfoldable pub computing : Unit {0}
-unfolding flatMap zipWith blankCell lowestCell highestCell cellOf eqZ isBlank columnOf orderingOf never operators says holds blankRow cellIn sideIn trueIn sideNames namesOf ownCell cellsIn range all any keep orElse distinct insert sort has single over merge same before ordered whollyBlank within dominated bestMatch tablesUnder outerProduct allTrue matches joined rowsOf nullify nullifyAll finished planRows queryOf tableCount tableNumbers conditionNumbers noCondition conditionAt namedBy joinPairs orderOr joinOrder grown tablesAt tablesOfPair nodesOf joinNodes orderNodes treeAt treeOf treesOf lastTree joinTrees joinTree setOf blanksLeft blanksRight taken setAfter setsAfter setsBy emptySets blankingSets between crosses inEvery usable paired fitsKind usableAt allIn pairFits planned plannedJoins planTrees planTree pairSets appliedSets missing asks blankings bitsOf kindNumber pairStep blankingStep bestMatchStep zeroStep stepsOf lowerSides sidesOf noneTwice wellBuilt question5 noneOrBuilt question9 columnExists sideExists conditionFits question6 question7 rightSides namesRightSide question8 kindsFit question10 bytes tab lineFeed sameBytes cut split closed digit decimal valueOf natural small positive negative number ifMade constant cell kindOf field oneOf end both readAll word numberField kindField operatorField cellFields formT formD formJ formC formK formP firstOf inPart lineBy lineOf linesOf beforeAll opens follows next placed also picked ofTables ofJoins ofOrder firstRows tablesOf firstConditions joinsOf conditionsOf pairsOf reportOf ifPlaced textLines readReport cellsInRows cellsInTables tableFits question3 question4 digitsOf printNumber printFields hasBit bitNumbers printEntry printSets kindLetter printStep printRow printRefusal databaseOf tableAt rowCountIn cellsOf database results withinLimit directRows question11Direct runRows reportRows pairCounts reportSteps question11 firstNo about tableQuestions queryQuestions orderQuestions sharedQuestions questionsOfReport questionsOfDirect reportQuestions directQuestions outcomeFor outcomeBy reportAnswer reportOutcome directOutcome printReport printDirect reportProgram directProgram
+unfolding flatMap zipWith blankCell lowestCell highestCell cellOf eqZ isBlank columnOf orderingOf never operators says truthOf isTrue isFalse isUnknown holds blankRow cellIn sideIn truthIn trueIn sideNames namesOf ownCell cellsIn range all any keep count orElse distinct insert sort has single over merge same before ordered whollyBlank within dominated bestMatch tablesUnder outerProduct allTrue matches joined rowsOf nullify nullifyAll finished planRows queryOf tableCount tableNumbers conditionNumbers noCondition conditionAt namedBy joinPairs orderOr joinOrder grown tablesAt tablesOfPair nodesOf joinNodes orderNodes treeAt treeOf treesOf lastTree joinTrees joinTree setOf blanksLeft blanksRight taken setAfter setsAfter setsBy emptySets blankingSets between crosses inEvery usable paired fitsKind usableAt allIn pairFits planned plannedJoins planTrees planTree pairSets appliedSets missing asks blankings bitsOf kindNumber pairStep blankingStep bestMatchStep zeroStep stepsOf lowerSides sidesOf noneTwice wellBuilt question5 noneOrBuilt question9 columnExists sideExists conditionFits question6 question7 rightSides namesRightSide question8 kindsFit question10 bytes tab lineFeed sameBytes cut split closed digit decimal valueOf natural small positive negative number ifMade constant cell kindOf field oneOf end both readAll word numberField kindField operatorField cellFields formT formD formJ formC formK formP firstOf inPart lineBy lineOf linesOf beforeAll opens follows next placed also picked ofTables ofJoins ofOrder firstRows tablesOf firstConditions joinsOf conditionsOf pairsOf reportOf ifPlaced textLines readReport cellsInRows cellsInTables tableFits question3 question4 digitsOf printNumber printFields hasBit bitNumbers printEntry printSets printTally printTallies kindLetter printStep printRow printRefusal databaseOf tableAt rowCountIn cellsOf database tallyOf pairTruths columnCells sideCells conditionTally tallies results withinLimit directRows question11Direct runRows reportRows pairCounts reportSteps question11 firstNo about tableQuestions queryQuestions orderQuestions sharedQuestions questionsOfReport questionsOfDirect reportQuestions directQuestions outcomeFor outcomeBy reportAnswer reportOutcome directOutcome printReport printDirect reportProgram directProgram
 computing = tt

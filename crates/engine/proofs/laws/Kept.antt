@@ -62,7 +62,7 @@ module _ {s : StoredQuery} {cells : List ℤ} {r : Report} (k : Stands s cells r
     joins = few-joins k well yes;
     room = omega (arith, (few-joins k well yes), k .join-room);
     conditions = counted k well yes .conditions;
-    rows = λ t h. rw (k .rows t h) (rows-limit r (three-yes r yes) t);
+    rows = λ t h. rw (k .rows t) (rows-limit r (three-yes r yes) t);
     left = λ i h. sides i h .0;
     right = λ i h. sides i h .1;
     ranges = λ i h. k .ranges (few-joins k well yes) i h noJoin;

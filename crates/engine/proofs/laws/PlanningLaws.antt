@@ -2,12 +2,12 @@
 use mathlib.Core.Path.{_≡_, refl, sym, ap, _∙_}
 use mathlib.Core.List.{List}
 use Prim.Native.Nat.{ℕ, _-_, _+_, _≤_, zero, suc}
+use lib.IntN.{ℤ}
 use lib.ListN.{length, replicate, getD, take}
 use native.Mathlib.Numerals.{add-one}
 use native.Mathlib.Omega.{arith}
 use lib.Seq.{length-take-le, take-suc}
 use Rattle.cells.specs.Limits.{areas}
-use Rattle.rows.specs.Trees.{Database}
 use Rattle.vocabulary.specs.Report.{joinOrder, Query}
 use Rattle.vocabulary.specs.inner.Stored.{queryIn}
 use Rattle.vocabulary.specs.declared.query.StoredQuery.{StoredQuery}
@@ -17,20 +17,21 @@ use Rattle.plan.specs.inner.StepWords.{listed, withRows}
 use Rattle.plan.proofs.laws.RowCounts.{countedSteps, no-rows, rows-next, all-rows}
 use Rattle.plan.specs.declared.steps.Plan.{Plan}
 use Rattle.plan.specs.inner.Words.{setWords}
+use Rattle.joins.specs.inner.Work.{workspace}
 use Rattle.joins.specs.declared.join.Joined.{Joined}
 use Rattle.executor.proofs.laws.PlanRuns.{PlanRan}
-use Rattle.engine.specs.inner.Planning.{handedOver, turnedDown, answeredWith, withCounts}
+use Rattle.engine.specs.inner.Planning.{factsIn, handedOver, turnedDown, answeredWith, withCounts}
 use Rattle.engine.specs.Answers.{Outcome, refused, answered, ReportAnswer}
 use Rattle.engine.specs.Calls.{factsOf, written}
 use Rattle.engine.specs.declared.planned.Concluded.{Concluded}
 
--- the run of a query's plan
-pub record StepsRun (D : Database ℕ) (q : StoredQuery) (w w′ : List ℕ) (r : Concluded) : Type 0 where
+-- the run of a query's plan over the cells of a cell buffer
+pub record StepsRun (cells : List ℤ) (q : StoredQuery) (w w′ : List ℕ) (r : Concluded) : Type 0 where
   pub counts : List ℕ
   pub joined : Joined
   pub long : length counts ≡ areas
-  pub ran : PlanRan D (planTrees (groundOf (queryIn q))) (q .«table_count») (q .«table_count» - 1) (blankings (groundOf (queryIn q))) counts w w′ joined
-  pub handed : r ≡ handedOver q (setWords (blankingSets (queryIn q))) (listed (stepsOf (groundOf (queryIn q)) (replicate (length (joinOrder (queryIn q))) 0)))
+  pub ran : PlanRan (workspace cells (q .layout) (q .conditions)) (planTrees (groundOf (queryIn q))) (q .«table_count») (q .«table_count» - 1) (blankings (groundOf (queryIn q))) counts w w′ joined
+  pub handed : r ≡ handedOver q (factsIn q (setWords (blankingSets (queryIn q))) cells) (listed (stepsOf (groundOf (queryIn q)) (replicate (length (joinOrder (queryIn q))) 0)))
       counts joined
 
 -- ---- an outcome

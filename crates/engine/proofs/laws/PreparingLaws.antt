@@ -1,5 +1,5 @@
 -- Question 1 and what is handed over, by the tests that the code makes; and the run of a query that was made ready. Assumes nothing.
-use mathlib.Core.Path.{_≡_, refl, sym, ap, _∙_}
+use mathlib.Core.Path.{_≡_, refl, sym, ap, ap₂, _∙_}
 use mathlib.Core.Logic.{by-cases}
 use mathlib.Core.Bool.{true, not}
 use mathlib.Core.List.{List}
@@ -20,7 +20,7 @@ use Rattle.plan.specs.inner.StepWords.{listed}
 use Rattle.plan.specs.declared.steps.Plan.{Plan}
 use Rattle.prepare.specs.inner.Prepared.{readyFor}
 use Rattle.prepare.specs.declared.prepared.Prepared.{Prepared}
-use Rattle.joins.specs.inner.Work.{workspace}
+use Rattle.vocabulary.specs.declared.facts.Facts.{Facts}
 use Rattle.joins.specs.declared.join.Joined.{Joined}
 use Rattle.joins.specs.declared.join.Joined.the-variants as J
 use Rattle.executor.specs.inner.Reading.{Readable}
@@ -30,7 +30,7 @@ use Rattle.step_list.proofs.laws.LentRuns.{lent-ran}
 use Rattle.step_list.specs.inner.Over.{Runs}
 use Rattle.step_list.specs.inner.State.{Ended, startState}
 use Rattle.step_list.specs.declared.state.State.{State}
-use Rattle.engine.specs.inner.Planning.{turnedDown, answeredWith, withCounts, handedOver}
+use Rattle.engine.specs.inner.Planning.{turnedDown, answeredWith, withCounts, factsIn, handedOver}
 use Rattle.engine.proofs.laws.PlanningLaws.{StepsRun}
 use Rattle.engine.specs.inner.Preparing.{enoughLent, Ends}
 use Rattle.engine.specs.declared.planned.Concluded.{Concluded}
@@ -57,40 +57,39 @@ module _ (cells work result steps : ℕ) where
 
 -- ---- what is handed over, by the code's tests
 
-module _ {p : Prepared} {r : State} {w v : List ℕ} where
-  pub ends-away : {x : Concluded} → 0 < p .number → x ≡ turnedDown (p .number) → Ends p r w v v x
+module _ {p : Prepared} {r : State} {c : List ℤ} {w v : List ℕ} where
+  pub ends-away : {x : Concluded} → 0 < p .number → x ≡ turnedDown (p .number) → Ends p r c w v v x
   ends-away e f = record { refused = λ h. (f, refl); rows = λ h. absurd (omega (arith, e, h)) }
 
   module _ {v′ : List ℕ} {a : Joined} (e : p .number ≤ 0) (long : length (r .counts) ≡ areas) (ended : Ended (p .query) r w v v′ a) where
-    pub ends-rows : {x : Concluded} {s : Plan} (k : ℕ) → a ≡ J.Rows k → x ≡ answeredWith k (record { tables = p .query .«table_count»; sets = p .sets }) s
-        → s ≡ withCounts (p .plan) (r .counts) (p .query .«table_count» - 1) → Ends p r w v v′ x
+    pub ends-rows : {x : Concluded} {f : Facts} {s : Plan} (k : ℕ) → a ≡ J.Rows k → x ≡ answeredWith k f s → f ≡ factsIn (p .query) (p .sets) c
+        → s ≡ withCounts (p .plan) (r .counts) (p .query .«table_count» - 1) → Ends p r c w v v′ x
     unfolding handedOver
-    ends-rows k f i g = record {
-      refused = λ h. absurd (omega (arith, e, h));
-      rows = λ h. (
+    ends-rows k f i h g = record {
+      refused = λ z. absurd (omega (arith, e, z));
+      rows = λ z. (
         long,
         (
           a,
           ended,
-          i ∙ ap (answeredWith k (record { tables = p .query .«table_count»; sets = p .sets })) g
-              ∙ sym (ap (handedOver (p .query) (p .sets) (p .plan) (r .counts)) f),
+          i ∙ ap₂ (answeredWith k) h g ∙ sym (ap (handedOver (p .query) (factsIn (p .query) (p .sets) c) (p .plan) (r .counts)) f),
         ),
       );
     }
 
-    pub ends-over : {x : Concluded} → a ≡ J.TooMany → x ≡ turnedDown 11 → Ends p r w v v′ x
+    pub ends-over : {x : Concluded} → a ≡ J.TooMany → x ≡ turnedDown 11 → Ends p r c w v v′ x
     unfolding handedOver
     ends-over f g = record {
       refused = λ h. absurd (omega (arith, e, h));
-      rows = λ h. (long, (a, ended, g ∙ sym (ap (handedOver (p .query) (p .sets) (p .plan) (r .counts)) f)));
+      rows = λ h. (long, (a, ended, g ∙ sym (ap (handedOver (p .query) (factsIn (p .query) (p .sets) c) (p .plan) (r .counts)) f)));
     }
 
 -- ---- a query that is ready, its plan laid into a list of n steps and run from it
 
 module _ (q : StoredQuery) (readable : Readable q) (five : T (question5 (queryIn q))) (nine : T (question9 (queryIn q))) (cells : List ℤ) (n : ℕ)
     (enough : stepListRoom ≤ n) (w w′ v v′ : List ℕ) (long : workRoom ≤ length w) (wide : resultRoom ≤ length v) (r : State) (h : Concluded) where
-  pub ready-run : Runs cells q (laid (take (readyFor q .plan .count) (readyFor q .plan .steps)) n) (startState q) w w′ r → Ends (readyFor q) r w′ v v′ h
-      → StepsRun (workspace cells (q .layout) (q .conditions)) q v v′ h
+  pub ready-run : Runs cells q (laid (take (readyFor q .plan .count) (readyFor q .plan .steps)) n) (startState q) w w′ r → Ends (readyFor q) r cells w′ v v′ h
+      → StepsRun cells q v v′ h
   unfolding readyFor startState
   ready-run run end =
       let (eight, (a, ended, handed)) = end .rows refl in

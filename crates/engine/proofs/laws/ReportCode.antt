@@ -10,10 +10,11 @@ use lib.IntN.{ℤ, pos}
 use lib.ListN.{length, take, replicate}
 use lib.Seq.{take-at}
 use mir.Facts.{and-yes, leb-yes}
-use Rattle.cells.specs.Limits.{mostTables, cellRoom, workRoom, resultRoom, stepListRoom, mostSteps}
+use Rattle.cells.specs.Limits.{cellRoom, workRoom, resultRoom, stepListRoom, mostSteps}
 use Rattle.rows.specs.Lists.{all}
 use Rattle.vocabulary.specs.Asking.{firstNo, numbersOf}
-use Rattle.vocabulary.specs.Report.{queryOf}
+use Rattle.vocabulary.specs.Report.{Report, queryOf}
+use Rattle.vocabulary.specs.inner.Stands.{Stands}
 use Rattle.vocabulary.specs.Steps.{zeroStep}
 use Rattle.vocabulary.specs.declared.query.StoredQuery.{StoredQuery}
 use Rattle.vocabulary.specs.Facts.{noFacts}
@@ -27,9 +28,10 @@ use Rattle.prepare.specs.declared.accept.AcceptAnswer as Accept
 use Rattle.prepare.specs.declared.accept.AcceptOutcome.the-variants as O
 use Rattle.prepare.specs.inner.Prepared.{turnedAway, readyFor, readyBy}
 use Rattle.prepare.specs.declared.prepared.Prepared.{Prepared}
-use Rattle.prepare.proofs.laws.PassedLaws.{text-well, text-passed, five-kept}
+use Rattle.prepare.proofs.laws.PassedLaws.{text-well, text-passed, five-kept, three-yes, rows-limit}
 use Rattle.prepare.specs.inner.Prepare.{Prepares, away, passed}
-use Rattle.joins.specs.inner.Work.{workspace}
+use Rattle.prepare.specs.Asking.{sharedQuestions}
+use Rattle.counts.specs.inner.Columns.{rowCounts, FewRows}
 use Rattle.step_list.specs.inner.Laid.{laid}
 use Rattle.step_list.proofs.laws.LaidLaws.{laid-out}
 use Rattle.step_list.specs.inner.Over.{Runs}
@@ -44,7 +46,7 @@ use Rattle.engine.specs.inner.Gave.{lentParts}
 use Rattle.engine.proofs.laws.Kept.{nine-kept}
 use Rattle.engine.specs.inner.Planning.{turnedDown, asCall, refusedReply, answeredWith}
 use Rattle.engine.proofs.laws.PlanningLaws.{StepsRun, Reported, concludedFor, resultAfter}
-use Rattle.engine.specs.inner.Preparing.{TablesWithin, Ends, byValue, enoughLent, Concludes}
+use Rattle.engine.specs.inner.Preparing.{QueryWithin, Within, Ends, byValue, enoughLent, Concludes}
 use Rattle.engine.proofs.laws.PreparingLaws.{ready-run}
 use Rattle.engine.proofs.laws.ReportLaws.{report-early, report-order, report-ran}
 use Rattle.engine.specs.declared.answer.Answer.the-variants.{Refused}
@@ -69,12 +71,22 @@ early : {bs : Bytes} {before after : List ℤ} {x : Accept.AcceptAnswer} {n : �
 unfolding numberIn
 early h e = sym (h .answer) ∙ ap numberIn e
 
-pub prepared-within : {bs : Bytes} {before after : List ℤ} {p : Prepared} → Prepares bs before after p → TablesWithin p
+-- no table has more rows than a table may have
+few-each : {s : StoredQuery} {cells : List ℤ} {r : Report} → Stands s cells r → firstNo sharedQuestions r ≡ none → FewRows (s .layout)
+unfolding rowCounts
+few-each {r = r} k asked t = rw (k .rows t) (rows-limit r (three-yes r asked) t)
+
+pub prepared-within : {bs : Bytes} {before after : List ℤ} {p : Prepared} → Prepares bs before after p → Within p
 prepared-within {bs} {p = p} (away {a} {n} h e z) f = absurd (omega (arith, refusal-positive bs n (early h e), away-number p (a .query) n z, f))
 prepared-within {p = p} (passed {a} h e z) f =
     let x = h .kept e .stands in
     let same : p .query ≡ a .query = ap (λ (y : Prepared). y .query) (z _ _ x) ∙ by-query (a .query) _ in
-    subst (λ (q : StoredQuery). (1 ≤ q .«table_count») × (q .«table_count» ≤ mostTables)) (sym same) (x .some, x .few)
+    subst QueryWithin (sym same) (record {
+      some = x .some;
+      tables = x .few;
+      conditions = text-readable h e .conditions;
+      rows = few-each x (text-passed h e);
+    })
 
 module _ (bs : Bytes) (before after : List ℤ) (p : Prepared) (room : cellRoom ≤ length before) (n : ℕ) (enough : stepListRoom ≤ n)
     (w w′ v v′ : List ℕ) (long : workRoom ≤ length w) (wide : resultRoom ≤ length v) (r : State) (h : Concluded) where
@@ -82,13 +94,13 @@ module _ (bs : Bytes) (before after : List ℤ) (p : Prepared) (room : cellRoom 
   Ran x = Runs after (x .query) (laid (take (x .plan .count) (x .plan .steps)) n) (startState (x .query)) w w′ r
 
   -- a text that is turned away
-  turned : (q : StoredQuery) (i : ℕ) → p ≡ turnedAway q i → 0 < i → Ends p r w′ v v′ h
+  turned : (q : StoredQuery) (i : ℕ) → p ≡ turnedAway q i → 0 < i → Ends p r after w′ v v′ h
       → ((u : List ℕ) → h ≡ turnedDown i → Reported (reportOutcome bs) u u h) → Reported (reportOutcome bs) v v′ h
   turned q i z b end gives =
       let (f, g) = end .refused (omega (arith, b, away-number p q i z)) in
       subst (λ (u : List ℕ). Reported (reportOutcome bs) v u h) (sym g) (gives v (f ∙ ap turnedDown (away-number p q i z)))
 
-  prepared-run : Prepares bs before after p → Ran p → Ends p r w′ v v′ h → Reported (reportOutcome bs) v v′ h
+  prepared-run : Prepares bs before after p → Ran p → Ends p r after w′ v v′ h → Reported (reportOutcome bs) v v′ h
   unfolding readyBy readyFor orderQuestions numbersOf all
   prepared-run (away {a} {n = i} x e z) run end =
       turned (a .query) i z (refusal-positive bs i (early x e)) end (λ u f. report-early bs i u (early x e) f)
@@ -101,10 +113,10 @@ module _ (bs : Bytes) (before after : List ℤ) (p : Prepared) (room : cellRoom 
       go (some i) f y = turned (a .query) i y (no-positive orderQuestions (queryOf (k .report)) i tt f) end
           (λ u g. report-order bs (k .read) (k .stands) (text-passed x e) i u f g)
       go none f y = report-ran bs (k .read) (k .stands) (text-passed x e) f v v′
-          (subst (λ (cells : List ℤ). StepsRun (workspace cells (a .query .layout) (a .query .conditions)) (a .query) v v′ h) (k .buffer room)
+          (subst (λ (cells : List ℤ). StepsRun cells (a .query) v v′ h) (k .buffer room)
           (ready-run (a .query) (text-readable x e) (five-kept (k .stands) (text-well x e) (text-passed x e))
           (nine-kept (k .stands) (text-well x e) (text-passed x e) f) after n enough w w′ v v′ long wide r h
-          (subst Ran y run) (subst (λ (u : Prepared). Ends u r w′ v v′ h) y end)))
+          (subst Ran y run) (subst (λ (u : Prepared). Ends u r after w′ v v′ h) y end)))
 
 -- ---- a call
 

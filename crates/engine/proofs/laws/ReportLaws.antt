@@ -11,7 +11,8 @@ use lib.ListN.{length, replicate, getD, take, drop, length-map, length-drop, Lis
 use lib.Seq.{ext-getD, getD-drop, getD-take, length-take-le}
 use mir.Facts.{leb-yes}
 use Rattle.cells.proofs.laws.BoolLaws.{is-true, is-false}
-use Rattle.cells.specs.Limits.{mostTables, mostRows, areas}
+use Rattle.cells.specs.Limits.{mostTables, mostConditions, mostRows, areas}
+use Rattle.cells.specs.Condition.{Cells, cellsIn}
 use Rattle.cells.specs.Row.{Row}
 use Rattle.cells.proofs.laws.TableLaws.{getD-within}
 use Rattle.rows.specs.Lists.{range, all}
@@ -20,7 +21,11 @@ use Rattle.rows.specs.Nullification.{finished}
 use Rattle.rows.specs.Trees.{Database, Tree, leaf, rowsOf}
 use Rattle.vocabulary.specs.Asking.{Question, about, firstNo}
 use Rattle.vocabulary.proofs.laws.AskingLaws.{none-left, none-then, no-then, first-about, asked-no, asked-yes}
-use Rattle.vocabulary.specs.Database.{database}
+use Rattle.vocabulary.specs.Database.{database, rowCountIn, cellsOf}
+use Rattle.vocabulary.specs.Facts.{noTally}
+use Rattle.vocabulary.specs.Tallies.{conditionTally, tallies}
+use Rattle.vocabulary.specs.declared.facts.Facts.{Facts}
+use Rattle.vocabulary.specs.declared.facts.Tally.{Tally}
 use Rattle.vocabulary.specs.Report.{Report, queryOf, Query, joinOrder, tableCount, tableNumbers}
 use Rattle.vocabulary.specs.Nodes.{treeOf, treesOf, treeAt, lastTree}
 use Rattle.vocabulary.proofs.laws.NodeLaws.{grown-length}
@@ -41,6 +46,7 @@ use Rattle.plan.specs.inner.Words.{setWords, wordsTo}
 use Rattle.prepare.specs.Asking.{sharedQuestions, questionsOfReport}
 use Rattle.prepare.specs.inner.Accept.{refusal}
 use Rattle.prepare.proofs.laws.PassedLaws.{read-well}
+use Rattle.counts.specs.inner.Columns.{rowCounts, talliesIn}
 use Rattle.joins.specs.inner.Work.{workspace}
 use Rattle.joins.specs.declared.join.Joined.{Joined}
 use Rattle.joins.specs.declared.join.Joined.the-variants as J
@@ -53,7 +59,7 @@ use Rattle.engine.proofs.laws.AnswerLaws.{refused-early, outcome-answer
 use Rattle.engine.specs.Calls.{factsOf, written}
 use Rattle.engine.proofs.laws.Kept.{nine-yes, query-kept}
 use Rattle.engine.proofs.laws.PlanningLaws.{concludedFor, resultAfter, Reported, StepsRun, rows-counted}
-use Rattle.engine.specs.inner.Planning.{turnedDown, answeredWith, withCounts, handedOver}
+use Rattle.engine.specs.inner.Planning.{turnedDown, answeredWith, withCounts, factsIn, handedOver}
 use Rattle.engine.proofs.laws.Reached.{pair-count, node-count, report-count, report-numbers}
 use Rattle.engine.specs.declared.planned.Concluded.{Concluded}
 
@@ -80,18 +86,16 @@ report-early bs n w e f =
 -- ---- what is handed over
 
 -- after the run of a query's plan
-abbrev handedBy : Query → ℕ → List ℕ → Joined → Concluded
-handedBy q n counts (J.Rows k) =
-    answeredWith k (record { tables = n; sets = setWords (blankingSets q) })
-    (withCounts (listed (stepsOf (groundOf q) (replicate (length (joinOrder q)) 0))) counts (n - 1))
-handedBy q n counts J.TooMany = turnedDown 11
+abbrev handedBy : Facts → Query → ℕ → List ℕ → Joined → Concluded
+handedBy facts q n counts (J.Rows k) = answeredWith k facts (withCounts (listed (stepsOf (groundOf q) (replicate (length (joinOrder q)) 0))) counts (n - 1))
+handedBy facts q n counts J.TooMany = turnedDown 11
 
-handed-by : (s : StoredQuery) (counts : List ℕ) (j : Joined)
-    → handedOver s (setWords (blankingSets (queryIn s))) (listed (stepsOf (groundOf (queryIn s)) (replicate (length (joinOrder (queryIn s))) 0))) counts j
-    ≡ handedBy (queryIn s) (s .«table_count») counts j
+handed-by : (s : StoredQuery) (facts : Facts) (counts : List ℕ) (j : Joined)
+    → handedOver s facts (listed (stepsOf (groundOf (queryIn s)) (replicate (length (joinOrder (queryIn s))) 0))) counts j
+    ≡ handedBy facts (queryIn s) (s .«table_count») counts j
 unfolding handedOver
-handed-by s counts (J.Rows k) = refl
-handed-by s counts J.TooMany = refl
+handed-by s facts counts (J.Rows k) = refl
+handed-by s facts counts J.TooMany = refl
 
 -- each table's set as bits, and 0 for the tables that there are not
 sets-words : (S : Sets) → length S ≤ mostTables → setWords S ≡ map bitsOf S ++ replicate (mostTables - length (map bitsOf S)) 0
@@ -106,6 +110,22 @@ sets-words (a ∷ b ∷ c ∷ d ∷ e ∷ f ∷ []) h = refl
 sets-words (a ∷ b ∷ c ∷ d ∷ e ∷ f ∷ g ∷ []) h = refl
 sets-words (a ∷ b ∷ c ∷ d ∷ e ∷ f ∷ g ∷ i ∷ []) h = refl
 sets-words (a ∷ b ∷ c ∷ d ∷ e ∷ f ∷ g ∷ i ∷ j ∷ S) h = absurd (omega arith)
+
+-- the counts of a query's conditions over its cells are the report's, and 0 for the conditions that there are not
+tallies-all : {s : StoredQuery} {cells : List ℤ} {r : Report} (k : Stands s cells r) → queryIn s .conditions ≡ queryOf r .conditions
+    → (s .«condition_count» ≡ length (tallies r))
+    × (talliesIn (rowCounts (s .layout)) (cellsIn cells (s .layout)) (s .conditions) (s .«condition_count»)
+    ≡ tallies r ++ replicate (mostConditions - length (tallies r)) noTally)
+unfolding talliesIn rowCounts tallies queryIn queryOf
+tallies-all {s} {cells} {r} k e =
+    let f = conditionTally (rowCountIn r) (cellsOf r) in
+    let n : s .«condition_count» ≡ length (map f (r .conditions)) = k .condition-count ∙ sym (length-map (r .conditions) f) in
+    let rows : _≡_ {A = ℕ → ℕ} (λ t. getD (s .layout .rows) t 0) (rowCountIn r) = λ i t. k .rows t i in
+    let same : cellsIn cells (s .layout) ≡ cellsOf r = λ i t row c. k .cells-same t row c i in (
+      n,
+      ap₂ (λ (l : List Tally) (m : ℕ). l ++ replicate (mostConditions - m) noTally)
+          (ap₂ (λ (g : ℕ → ℕ) (h : Cells). map (conditionTally g h) (take (s .«condition_count») (s .conditions))) rows same ∙ ap (map f) e) n,
+    )
 
 -- a text that they do not turn down, of which this is kept
 module _ (bs : Bytes) {s : StoredQuery} {cells : List ℤ} {r : Report} (read : readReport bs ≡ some r) (k : Stands s cells r)
@@ -243,27 +263,45 @@ module _ (bs : Bytes) {s : StoredQuery} {cells : List ℤ} {r : Report} (read : 
     tables-all : n ≡ length (map bitsOf (blankingSets q))
     tables-all = sym (length-map (blankingSets q) bitsOf ∙ blanking-proper q .each)
 
+    -- what stands beside the rows
+    facts-all : factsIn s (setWords (blankingSets (queryIn s))) cells ≡ factsOf (reportAnswer r)
+    unfolding factsIn factsOf reportAnswer
+    facts-all =
+        let same = query-kept k well yes admitted in
+        let t : s .«table_count» ≡ length (map bitsOf (blankingSets q)) = k .table-count ∙ tables-all in
+        let b : setWords (blankingSets (queryIn s)) ≡ map bitsOf (blankingSets q) ++ replicate (mostTables - length (map bitsOf (blankingSets q))) 0 =
+        ap (λ (z : Query). setWords (blankingSets z)) same ∙ sets-all in
+        let u = tallies-all k (ap (λ (z : Query). z .conditions) same) in
+        λ i. record {
+          tables = t i;
+          sets = b i;
+          conditions = u .0 i;
+          holds = map (λ (t : Tally). t .holds) (u .1 i);
+          fails = map (λ (t : Tally). t .fails) (u .1 i);
+          unknown = map (λ (t : Tally). t .unknown) (u .1 i);
+        }
+
     -- the plan run
-    ran-gives : (w w′ : List ℕ) {x : Concluded} (counts : List ℕ) (j : Joined) → length counts ≡ areas → PlanRan W trees n (n - 1) (blankings (groundOf q)) counts w w′ j
-        → x ≡ handedBy q n counts j → Reported (reportOutcome bs) w w′ x
-    unfolding concludedFor factsOf resultAfter reportAnswer written flatRows
-    ran-gives w w′ counts _ long (ran m few each x) e =
+    ran-gives : (w w′ : List ℕ) {x : Concluded} (facts : Facts) (counts : List ℕ) (j : Joined) → facts ≡ factsOf (reportAnswer r) → length counts ≡ areas
+        → PlanRan W trees n (n - 1) (blankings (groundOf q)) counts w w′ j → x ≡ handedBy facts q n counts j → Reported (reportOutcome bs) w w′ x
+    unfolding concludedFor resultAfter reportAnswer written flatRows
+    ran-gives w w′ facts counts _ beside long (ran m few each x) e =
         let f : finished W (blankings (groundOf q)) (rowsOf W (treeAt trees (n + (n - 1) - 1))) ≡ finished W (blankings (groundOf q)) (rowsOf W (planTree (groundOf q))) =
         ap (λ (E : Tree ℕ). finished W (blankings (groundOf q)) (rowsOf W E)) (last-node counts long few each) in
         let c : m ≡ length (reportRows r) = x .count ∙ ap length f ∙ report-count k well yes nine in
         let v : flatRows n (finished W (blankings (groundOf q)) (rowsOf W (treeAt trees (n + (n - 1) - 1)))) ≡ flatMap (λ (row : Row). row) (reportRows r) =
         ap (flatMap (take n)) f ∙ report-numbers k well yes nine in
         reported (answered (reportAnswer r)) (outcome-rows (eleven-yes counts long few each))
-        (e ∙ rw (c, sets-all, steps-all counts long few each, tables-all)) (x .numbers ∙ rw v)
-    ran-gives w w′ counts _ long (over i h o f) e =
+        (e ∙ rw (c, beside, steps-all counts long few each)) (x .numbers ∙ rw v)
+    ran-gives w w′ facts counts _ beside long (over i h o f) e =
         reported (refused 11) (outcome-11 (eleven-no i (omega (arith, pairs, h)) o)) e f
 
     -- and run by the code
-    pub report-ran : (w w′ : List ℕ) {x : Concluded} → StepsRun W s w w′ x → Reported (reportOutcome bs) w w′ x
+    pub report-ran : (w w′ : List ℕ) {x : Concluded} → StepsRun cells s w w′ x → Reported (reportOutcome bs) w w′ x
     report-ran w w′ y =
         let same = query-kept k well yes admitted in
-        ran-gives w w′ (y .counts) (y .joined) (y .long)
+        ran-gives w w′ (factsIn s (setWords (blankingSets (queryIn s))) cells) (y .counts) (y .joined) facts-all (y .long)
         (subst (λ (m : ℕ). PlanRan W trees m (m - 1) (blankings (groundOf q)) (y .counts) w w′ (y .joined)) (k .table-count)
         (subst (λ (z : Query). PlanRan W (planTrees (groundOf z)) (s .«table_count») (s .«table_count» - 1) (blankings (groundOf z)) (y .counts) w w′ (y .joined)) same (y .ran)))
-        (y .handed ∙ handed-by s (y .counts) (y .joined)
-        ∙ ap₂ (λ (z : Query) (m : ℕ). handedBy z m (y .counts) (y .joined)) same (k .table-count))
+        (y .handed ∙ handed-by s (factsIn s (setWords (blankingSets (queryIn s))) cells) (y .counts) (y .joined)
+        ∙ ap₂ (λ (z : Query) (m : ℕ). handedBy (factsIn s (setWords (blankingSets (queryIn s))) cells) z m (y .counts) (y .joined)) same (k .table-count))

@@ -1,6 +1,6 @@
 -- Work space over what is kept of a text is the report's database, with blank entries behind each row; so the rows of the tree are the
 -- definitions' rows. Assumes nothing.
-use mathlib.Core.Path.{_≡_, refl, ap₂, sym, ap, _∙_, subst}
+use mathlib.Core.Path.{_≡_, refl, ap₂, sym, ap, _∙_}
 use mathlib.Core.List.{List, [], map, flatMap}
 use Prim.Native.Nat.{ℕ, _-_, _<_, _≤_}
 use native.Mathlib.Omega.{arith}
@@ -8,6 +8,7 @@ use lib.Dec.{T}
 use lib.IntN.{ℤ}
 use lib.ListN.{length, take, getD, length-map}
 use Rattle.cells.specs.Condition.{Cells, cellIn, sideIn, trueIn, cellsIn}
+use Rattle.cells.proofs.laws.ConditionLaws.{true-holds}
 use Rattle.cells.specs.Limits.{mostConditions, stride}
 use Rattle.cells.specs.Operator.{holds}
 use Rattle.cells.specs.Row.{Row, at, blankRow}
@@ -38,8 +39,8 @@ use Rattle.executor.proofs.laws.WidthLaws.{rows-pad}
 
 -- cells that are the same everywhere make the same conditions true
 true-cells : (f g : Cells) → ((t row column : ℕ) → f t row column ≡ g t row column) → (k : Condition) (row : Row) → trueIn f k row ≡ trueIn g k row
-unfolding trueIn cellIn sideIn
-true-cells f g same k row = ap₂ (holds (k .operator)) (cell (k .table) (k .column)) (side (k .side))
+unfolding cellIn sideIn
+true-cells f g same k row = true-holds f k row ∙ ap₂ (holds (k .operator)) (cell (k .table) (k .column)) (side (k .side)) ∙ sym (true-holds g k row)
   where
     cell : (t c : ℕ) → cellIn f row t c ≡ cellIn g row t c
     cell t c = rw (same t (at row t) c)
@@ -69,7 +70,7 @@ module _ {s : StoredQuery} {cells : List ℤ} {r : Report} (k : Stands s cells r
 
   pub counts : (t : ℕ) → t < tableCount q → W .rowCount t ≡ rowCountIn r t
   unfolding workspace
-  counts t h = k .rows t (subst (λ (n : ℕ). t < n) (sym (k .table-count)) h)
+  counts t h = k .rows t
 
   module _ (small : (t : ℕ) → rowCountIn r t ≤ blankRow) where
     abbrev laws : Lawful (databaseOf q (rowCountIn r) (cellsOf r))

@@ -1,14 +1,18 @@
 -- What the inner functions of the report hand over: a refusal, or an answer with its plan and the counts of rows of its pairs; and a call
 -- by its parts. Assumes nothing.
-use mathlib.Core.List.{[], List}
+use mathlib.Core.List.{[], List, map}
 use Prim.Native.Nat.{ℕ, zero, suc, _-_}
+use lib.IntN.{ℤ}
 use lib.ListN.{getD}
+use Rattle.cells.specs.Condition.{cellsIn}
 use Rattle.vocabulary.specs.Facts.{noFacts}
 use Rattle.vocabulary.specs.declared.query.StoredQuery.{StoredQuery}
 use Rattle.vocabulary.specs.declared.step.Step.{Step}
 use Rattle.vocabulary.specs.declared.facts.Facts.{Facts}
+use Rattle.vocabulary.specs.declared.facts.Tally.{Tally}
 use Rattle.plan.specs.inner.StepWords.{listed, withRows}
 use Rattle.plan.specs.declared.steps.Plan.{Plan}
+use Rattle.counts.specs.inner.Columns.{rowCounts, talliesIn}
 use Rattle.joins.specs.declared.join.Joined.{Joined}
 use Rattle.joins.specs.declared.join.Joined.the-variants as J
 use Rattle.engine.specs.declared.answer.Answer.the-variants.{Refused, Rows}
@@ -33,11 +37,24 @@ unfoldable pub withCounts : Plan → List ℕ → ℕ → Plan
 withCounts s counts zero = s
 withCounts s counts (suc k) = withRows (withCounts s counts k) k (getD counts k 0)
 
--- what is handed over after the run of a plan, s: how many rows there are, the sets, and the plan with the counts of its pairs; or refusal 11
-unfoldable pub handedOver : StoredQuery → List ℕ → Plan → List ℕ → Joined → Concluded
-handedOver q sets s counts (J.Rows k) =
-    answeredWith k (record { tables = q .«table_count»; sets = sets }) (withCounts s counts (q .«table_count» - 1))
-handedOver q sets s counts J.TooMany = turnedDown 11
+-- what stands beside the rows of a query: its sets, and the counts of its conditions over the cells of the cell buffer, c
+unfoldable pub factsIn : StoredQuery → List ℕ → List ℤ → Facts
+factsIn q sets c =
+    let ts = talliesIn (rowCounts (q .layout)) (cellsIn c (q .layout)) (q .conditions) (q .«condition_count») in
+    record {
+      tables = q .«table_count»;
+      sets = sets;
+      conditions = q .«condition_count»;
+      holds = map (λ (t : Tally). t .holds) ts;
+      fails = map (λ (t : Tally). t .fails) ts;
+      unknown = map (λ (t : Tally). t .unknown) ts;
+    }
+
+-- what is handed over after the run of a plan, s: how many rows there are, what stands beside them, and the plan with the counts of its
+-- pairs; or refusal 11
+unfoldable pub handedOver : StoredQuery → Facts → Plan → List ℕ → Joined → Concluded
+handedOver q facts s counts (J.Rows k) = answeredWith k facts (withCounts s counts (q .«table_count» - 1))
+handedOver q facts s counts J.TooMany = turnedDown 11
 
 -- what is answered, and lent memory and the list of steps afterwards, as a call
 abbrev pub asCall : Reply → Lent → List Step → ReportCall

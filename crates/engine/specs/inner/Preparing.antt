@@ -7,13 +7,15 @@ use Prim.Native.Nat.{ℕ, _≤_, _<_}
 use lib.Dec.{leb}
 use lib.IntN.{ℤ, pos}
 use lib.ListN.{length, replicate}
-use Rattle.cells.specs.Limits.{cellRoom, workRoom, resultRoom, stepListRoom, mostTables, areas}
+use Rattle.cells.specs.Limits.{cellRoom, workRoom, resultRoom, stepListRoom, mostTables, mostConditions, areas}
+use Rattle.vocabulary.specs.declared.query.StoredQuery.{StoredQuery}
 use Rattle.vocabulary.specs.declared.step.Step.{Step}
+use Rattle.counts.specs.inner.Columns.{FewRows}
 use Rattle.prepare.specs.declared.prepared.Prepared.{Prepared}
 use Rattle.joins.specs.declared.join.Joined.{Joined}
 use Rattle.step_list.specs.inner.State.{Ended}
 use Rattle.step_list.specs.declared.state.State.{State}
-use Rattle.engine.specs.inner.Planning.{turnedDown, handedOver}
+use Rattle.engine.specs.inner.Planning.{turnedDown, factsIn, handedOver}
 use Rattle.engine.specs.declared.planned.Concluded.{Concluded}
 use Rattle.engine.specs.declared.planned.Planned.{Planned}
 use Rattle.engine.specs.declared.planned.Reply.{Reply}
@@ -26,16 +28,23 @@ enoughLent cells work result steps = (leb workRoom work && leb resultRoom result
 
 -- ---- the end of a call
 
--- there are 1 to 8 tables, where no question turned the text down
-abbrev pub TablesWithin : Prepared → Type 0
-TablesWithin p = p .number ≤ 0 → (1 ≤ p .query .«table_count») × (p .query .«table_count» ≤ mostTables)
+-- there are 1 to 8 tables, no more conditions than memory has room for, and no table has more rows than a table may have
+pub record QueryWithin (q : StoredQuery) : Type 0 where
+  pub some : 1 ≤ q .«table_count»
+  pub tables : q .«table_count» ≤ mostTables
+  pub conditions : q .«condition_count» ≤ mostConditions
+  pub rows : FewRows (q .layout)
 
--- what is handed over for what was made ready, p, and the state r at the end of the run; w is the work buffer, v and v′ the result before
--- and after
-pub record Ends (p : Prepared) (r : State) (w v v′ : List ℕ) (x : Concluded) : Type 0 where
+-- so it is where no question turned the text down
+abbrev pub Within : Prepared → Type 0
+Within p = p .number ≤ 0 → QueryWithin (p .query)
+
+-- what is handed over for what was made ready, p, and the state r at the end of the run; c is the cell buffer, w the work buffer, v and v′
+-- the result before and after
+pub record Ends (p : Prepared) (r : State) (c : List ℤ) (w v v′ : List ℕ) (x : Concluded) : Type 0 where
   pub refused : 0 < p .number → (x ≡ turnedDown (p .number)) × (v′ ≡ v)
   pub rows : p .number ≡ 0 → (length (r .counts) ≡ areas)
-      × ((a : Joined) × Ended (p .query) r w v v′ a × (x ≡ handedOver (p .query) (p .sets) (p .plan) (r .counts) a))
+      × ((a : Joined) × Ended (p .query) r w v v′ a × (x ≡ handedOver (p .query) (factsIn (p .query) (p .sets) c) (p .plan) (r .counts) a))
 
 -- what is answered and these steps, as they are handed over by value. Specification 10.9
 unfoldable pub byValue : Reply → List Step → Planned
@@ -43,6 +52,6 @@ byValue r steps = record { answer = r .answer; facts = r .facts; plan = record {
 
 -- the end of a call: c, w and v are the cell buffer, the work buffer and the result, before and after; the first two end filled with 0
 pub record Concludes (p : Prepared) (r : State) (c c′ : List ℤ) (w w′ v v′ : List ℕ) (x : Concluded) : Type 0 where
-  pub ends : Ends p r w v v′ x
+  pub ends : Ends p r c w v v′ x
   pub cells : c′ ≡ replicate (length c) (pos 0)
   pub work : w′ ≡ replicate (length w) 0

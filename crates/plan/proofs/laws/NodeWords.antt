@@ -14,14 +14,14 @@ use mir.Facts.{ltb-yes, ltb-no}
 use Rattle.cells.specs.Limits.{mostNodes, mostTables}
 use Rattle.cells.proofs.laws.TableLaws.{getD-within}
 use Rattle.rows.specs.Lists.{range}
-use Rattle.rows.proofs.laws.ListLaws.{decT, length-range}
+use Rattle.rows.proofs.laws.ListLaws.{decT, length-range, range-next}
 use Rattle.vocabulary.specs.Report.{Join, Pair, joinPairs, joinOrder, orderOr, tableCount, Query, tableNumbers}
 use Rattle.vocabulary.specs.Nodes.{grown, tablesAt, nodesOf, tablesOfPair}
 use Rattle.vocabulary.specs.inner.Stored.{joinIn, pairIn, queryIn}
 use Rattle.vocabulary.proofs.laws.NodeLaws.{grown-length}
 use Rattle.vocabulary.specs.Steps.{bitsOf}
 use Rattle.vocabulary.proofs.laws.BitLaws.{bits-append}
-use Rattle.vocabulary.proofs.laws.WordLaws.{tab-at, tab-length, range-next}
+use Rattle.vocabulary.proofs.laws.WordLaws.{tab-at, tab-length}
 use Rattle.vocabulary.specs.declared.query.StoredJoin.{StoredJoin}
 use Rattle.vocabulary.specs.declared.query.StoredPair.{StoredPair}
 use Rattle.vocabulary.specs.declared.query.StoredQuery.{StoredQuery}
@@ -141,7 +141,7 @@ pub leaf-next : (t : ℕ) → t < mostTables → set (leafWords t) t (2 ^ t) ≡
 unfolding leafWords bitsOf
 leaf-next t h =
     let n : length (map (λ (u : ℕ). u ∷ []) (range 0 t)) ≡ t = length-map (range 0 t) (λ u. u ∷ []) ∙ length-range 0 t in
-    rw (range-next t, map-append (λ (u : ℕ). u ∷ []) (range 0 t) (t ∷ []))
+    rw (add-one t, range-next t, map-append (λ (u : ℕ). u ∷ []) (range 0 t) (t ∷ []))
     (subst (λ (k : ℕ). set (leafWords t) k (2 ^ t) ≡ nodeWords (map (λ u. u ∷ []) (range 0 t) ++ ((t ∷ []) ∷ []))) n
     (rw (sym (or-zero-r (2 ^ t))) (node-next (map (λ (u : ℕ). u ∷ []) (range 0 t)) (t ∷ []) (omega arith))))
 

@@ -4,7 +4,7 @@ use mathlib.Core.Path.{_≡_, refl, sym, ap, ap₂, _∙_, subst}
 use mathlib.Core.Bool.{true, _&&_}
 use mathlib.Core.List.{List, [], _∷_, _++_}
 use mathlib.Core.Option.{Option, none, some}
-use Prim.Native.Nat.{ℕ, _+_, _<_, _≤_}
+use Prim.Native.Nat.{ℕ, _+_, _≤_}
 use native.Mathlib.Omega.{arith}
 use lib.Dec.{leb}
 use lib.IntN.{ℤ}
@@ -33,8 +33,8 @@ use Rattle.reader.specs.inner.Outcome.{TextOutcome, turnedDown, says, readOutco
 use Rattle.reader.proofs.laws.Whole as W
 use Rattle.reader.proofs.laws.Ranges.{joins-room, join-range}
 use Rattle.reader.proofs.laws.Conditions.{condition-seen}
-use Rattle.reader.proofs.laws.Looked.{noTable, rows-at, flat-length}
-use Rattle.reader.proofs.laws.Cells.{cells-whole}
+use Rattle.reader.proofs.laws.Looked.{noTable, flat-length}
+use Rattle.reader.proofs.laws.Cells.{rows-whole, cells-whole}
 use Rattle.plan.specs.Questions.{queryQuestions}
 use Rattle.prepare.specs.Asking.{sharedQuestions}
 use Rattle.prepare.specs.inner.Accept.{KeptText, refusal}
@@ -79,7 +79,7 @@ module _ (bs : Bytes) (ls : List Line) (read : textLines bs ≡ some ls) (yes : 
     pairs = W.pairs-whole ls;
     ranges = λ few i h d. join-range ls few i h d;
     truths = λ few f c row. condition-seen ls (subst (λ (n : ℕ). n ≤ mostConditions) (stored-numbered ls) few) f c row;
-    rows = λ t h. rows-at ls early (within .1) (within .2) t (subst (λ (n : ℕ). t < n) (stored-tables ls) h);
+    rows = rows-whole ls early (within .1) (within .2) even (within .0);
     cells-same = cells-whole ls early (within .1) (within .2) even more;
   }
 

@@ -1,17 +1,17 @@
 -- The lines of the print, as the code appends them field after field. Assumes nothing.
-use mathlib.Core.Path.{_≡_, ap, refl, sym, _∙_, ap₂}
-use mathlib.Core.List.{List, [], _∷_, _++_, map, flatMap, append-assoc, append-nil}
-use Prim.Native.Nat.{ℕ, _≤_, _<_, zero, suc, _+_}
-use native.Mathlib.Nat.{add-zero, suc-add, add-suc}
+use mathlib.Core.Path.{_≡_, ap, refl, _∙_}
+use mathlib.Core.List.{List, [], _∷_, _++_, map, flatMap, append-assoc}
+use Prim.Native.Nat.{ℕ, _≤_, _<_, zero, suc}
 use native.Mathlib.Omega.{arith}
 use lib.ListN.{getD, length, take}
-use lib.Seq.{take-suc, length-take-le}
 use borrow.Author.Tests.{le-leb, lt-leb, eq-eqb, ne-eqb}
 use Rattle.cells.specs.Row.{Row}
+use Rattle.rows.specs.Lists.{range}
+use Rattle.vocabulary.specs.declared.facts.Tally.{Tally}
 use Rattle.vocabulary.specs.declared.step.Step.{Step}
 use Rattle.text.specs.Bytes.{lineFeed, Bytes, bytes, tab}
-use Rattle.text.specs.Print.{printFields, printNumber, bitNumbers, printEntry, printRow, printRefusal, kindLetter, printStep, printSets}
-use Rattle.print.proofs.laws.Loops.{upTo}
+use Rattle.text.specs.Print.{printFields, printNumber, bitNumbers, printEntry, printRow, printRefusal, kindLetter, printStep, printSets, printTally, printTallies}
+use Rattle.print.proofs.laws.Loops.{upTo, numbered, upTo-numbered, upTo-range}
 use Rattle.print.specs.inner.Fields.{printedNumber, entryField, printedField}
 use Rattle.print.proofs.laws.FieldsLaws.{fields-then}
 
@@ -74,18 +74,25 @@ kind-letter (suc (suc (suc (suc k)))) n h = absurd (omega arith)
 unfoldable pub setLine : ℕ → ℕ → Bytes
 setLine t s = bytes "S" ++ printFields (map printNumber (t ∷ bitNumbers s))
 
-pub sets-last : (t : ℕ) (S : List ℕ) (s : ℕ) → printSets t (S ++ (s ∷ [])) ≡ printSets t S ++ setLine (t + length S) s
-unfolding printSets setLine bytes
-sets-last t [] s = rw (add-zero t) (append-nil (setLine t s))
-sets-last t (x ∷ S) s =
-    ap (λ (b : Bytes). setLine t x ++ b) (sets-last (suc t) S s ∙ rw (suc-add t (length S), add-suc t (length S)))
-    ∙ sym (append-assoc (setLine t x) (printSets (suc t) S) (setLine (t + suc (length S)) s))
+sets-numbered : (t : ℕ) (S : List ℕ) → numbered setLine t S ≡ printSets t S
+unfolding printSets setLine numbered
+sets-numbered t [] = refl
+sets-numbered t (s ∷ S) = ap (λ (b : Bytes). setLine t s ++ b) (sets-numbered (suc t) S)
 
 pub sets-all : (S : List ℕ) (n : ℕ) → n ≤ length S → upTo (λ t. setLine t (getD S t 0)) n ≡ printSets 0 (take n S)
-unfolding upTo printSets
-sets-all S zero h = refl
-sets-all S (suc n) h =
-    let e : 0 + length (take n S) ≡ n = omega (arith, length-take-le n S (omega arith)) in
-    ap₂ (λ (b : Bytes) (k : ℕ). b ++ setLine k (getD S n 0)) (sets-all S n (omega arith)) (sym e)
-    ∙ sym (sets-last 0 (take n S) (getD S n 0))
-    ∙ ap (printSets 0) (sym (take-suc S n 0 (omega arith)))
+sets-all S n h = upTo-numbered setLine S 0 n h ∙ sets-numbered 0 (take n S)
+
+-- ---- the lines of all conditions
+
+pub tally-line : (k : ℕ) (t : Tally) → printTally k t
+    ≡ bytes "U" ++ printedNumber k ++ printedNumber (t .holds) ++ printedNumber (t .fails) ++ printedNumber (t .unknown) ++ (lineFeed ∷ [])
+unfolding printTally printFields printedNumber printedField bytes
+tally-line k t = simp append-assoc
+
+tallies-numbered : (k : ℕ) (ts : List Tally) → numbered printTally k ts ≡ printTallies k ts
+unfolding printTallies numbered
+tallies-numbered k [] = refl
+tallies-numbered k (t ∷ ts) = ap (λ (b : Bytes). printTally k t ++ b) (tallies-numbered (suc k) ts)
+
+pub tallies-all : (f : ℕ → Tally) (n : ℕ) → upTo (λ k. printTally k (f k)) n ≡ printTallies 0 (map f (range 0 n))
+tallies-all f n = upTo-range printTally f n ∙ tallies-numbered 0 (map f (range 0 n))

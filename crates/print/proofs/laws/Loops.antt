@@ -1,16 +1,16 @@
 -- What a loop appends: the bytes of each number below a bound, one after the other; it agrees with lists that are gone through from the
 -- front. Assumes nothing.
 use mathlib.Core.Path.{_≡_, ap, _∙_, sym, refl, ap₂}
-use mathlib.Core.List.{[], _++_, List, append-assoc, append-nil, _∷_, flatMap}
+use mathlib.Core.List.{[], _++_, List, append-assoc, append-nil, _∷_, flatMap, map, map-append}
 use mathlib.Core.Bool.{Bool}
 use Prim.Native.Nat.{ℕ, zero, suc, _+_, _*_, _≤_}
-use native.Mathlib.Nat.{mul-suc, zero-add}
+use native.Mathlib.Nat.{mul-suc, add-zero, suc-add, add-suc}
 use native.Mathlib.Numerals.{add-one}
 use native.Mathlib.Omega.{arith}
-use lib.ListN.{length, take, getD}
-use lib.Seq.{take-suc}
+use lib.ListN.{length, length-map, take, getD}
+use lib.Seq.{take-suc, length-take-le}
 use Rattle.rows.specs.Lists.{range, keep}
-use Rattle.rows.proofs.laws.ListLaws.{flatMap-append, keep-append, range-snoc}
+use Rattle.rows.proofs.laws.ListLaws.{flatMap-append, keep-append, length-range, range-next}
 use Rattle.text.specs.Bytes.{Bytes}
 use Rattle.print.specs.inner.Output.{Written}
 use Rattle.print.proofs.laws.OutputLaws.{written-then, written-as}
@@ -51,6 +51,40 @@ upTo-flatMap g l d (suc n) h =
     rw (take-suc l n d (omega arith), flatMap-append g (take n l) (getD l n d ∷ []), flatMap-one g (getD l n d))
     (ap (λ (b : Bytes). b ++ g (getD l n d)) (upTo-flatMap g l d n (omega arith)))
 
+-- ---- lines with their numbers
+
+-- the bytes of each element and its number, from a number on
+unfoldable pub numbered : {A : Type 0} → (ℕ → A → Bytes) → ℕ → List A → Bytes
+numbered f k [] = []
+numbered f k (x ∷ l) = f k x ++ numbered f (suc k) l
+
+numbered-last : {A : Type 0} (f : ℕ → A → Bytes) (k : ℕ) (l : List A) (x : A) → numbered f k (l ++ (x ∷ [])) ≡ numbered f k l ++ f (k + length l) x
+unfolding numbered
+numbered-last f k [] x = rw (add-zero k) (append-nil (f k x))
+numbered-last f k (y ∷ l) x =
+    ap (λ (b : Bytes). f k y ++ b) (numbered-last f (suc k) l x ∙ rw (suc-add k (length l), add-suc k (length l)))
+    ∙ sym (append-assoc (f k y) (numbered f (suc k) l) (f (k + suc (length l)) x))
+
+-- the first elements of a list
+pub upTo-numbered : {A : Type 0} (f : ℕ → A → Bytes) (l : List A) (d : A) (n : ℕ) → n ≤ length l → upTo (λ k. f k (getD l k d)) n ≡ numbered f 0 (take n l)
+unfolding upTo numbered
+upTo-numbered f l d zero h = refl
+upTo-numbered f l d (suc n) h =
+    let e : 0 + length (take n l) ≡ n = omega (arith, length-take-le n l (omega arith)) in
+    ap₂ (λ (b : Bytes) (k : ℕ). b ++ f k (getD l n d)) (upTo-numbered f l d n (omega arith)) (sym e)
+    ∙ sym (numbered-last f 0 (take n l) (getD l n d))
+    ∙ ap (numbered f 0) (sym (take-suc l n d (omega arith)))
+
+-- what each number below a bound has
+pub upTo-range : {A : Type 0} (f : ℕ → A → Bytes) (g : ℕ → A) (n : ℕ) → upTo (λ k. f k (g k)) n ≡ numbered f 0 (map g (range 0 n))
+unfolding upTo numbered range
+upTo-range f g zero = refl
+upTo-range f g (suc n) =
+    let e : 0 + length (map g (range 0 n)) ≡ n = omega (arith, length-map (range 0 n) g, length-range 0 n) in
+    ap₂ (λ (b : Bytes) (k : ℕ). b ++ f k (g n)) (upTo-range f g n) (sym e)
+    ∙ sym (numbered-last f 0 (map g (range 0 n)) (g n))
+    ∙ ap (numbered f 0) (sym (map-append g (range 0 n) (n ∷ [])) ∙ ap (map g) (sym (range-next n)))
+
 -- ---- selections from a range
 
 -- the bytes of the numbers below a bound of which p is true
@@ -58,8 +92,7 @@ pub upTo-keep : (p : ℕ → Bool) (g : ℕ → Bytes) (n : ℕ) → upTo (λ k.
 unfolding upTo flatMap range keep
 upTo-keep p g zero = refl
 upTo-keep p g (suc n) =
-    let e : range 0 (suc n) ≡ range 0 n ++ (n ∷ []) = range-snoc 0 n ∙ ap (λ (k : ℕ). range 0 n ++ (k ∷ [])) (zero-add n) in
     ap (λ (b : Bytes). b ++ flatMap g (keep p (n ∷ []))) (upTo-keep p g n)
     ∙ sym (flatMap-append g (keep p (range 0 n)) (keep p (n ∷ [])))
     ∙ ap (flatMap g) (sym (keep-append p (range 0 n) (n ∷ [])))
-    ∙ ap (λ (l : List ℕ). flatMap g (keep p l)) (sym e)
+    ∙ ap (λ (l : List ℕ). flatMap g (keep p l)) (sym (range-next n))

@@ -8,7 +8,7 @@ use native.Mathlib.Omega.{arith}
 use lib.Dec.{leb, ltb}
 use lib.ListN.{length, drop}
 use borrow.Author.Tests.{le-leb, lt-leb, leb-true, lt-ltb, le-ltb}
-use Rattle.cells.specs.Limits.{mostTables, mostRows, mostSteps, printRoom}
+use Rattle.cells.specs.Limits.{mostTables, mostConditions, mostRows, mostSteps, printRoom}
 use Rattle.vocabulary.specs.declared.facts.Facts.{Facts}
 use Rattle.text.specs.Bytes.{Bytes}
 use Rattle.print.specs.inner.Output.{Written}
@@ -51,18 +51,23 @@ module _ (f : Facts) (steps rows numbers : ℕ) where
   unfolding fitting
   many-steps h = rw (lt-leb steps mostSteps h)
 
-  pub few-steps : steps ≤ mostSteps → fitting f steps rows numbers ≡ rowsFit (f .tables) rows numbers
+  pub many-conditions : steps ≤ mostSteps → mostConditions < f .conditions → fitting f steps rows numbers ≡ false
   unfolding fitting
-  few-steps h = rw (le-leb steps mostSteps h)
+  many-conditions h k = rw (le-leb steps mostSteps h, lt-leb (f .conditions) mostConditions k)
+
+  pub few-steps : steps ≤ mostSteps → f .conditions ≤ mostConditions → fitting f steps rows numbers ≡ rowsFit (f .tables) rows numbers
+  unfolding fitting
+  few-steps h k = rw (le-leb steps mostSteps h, le-leb (f .conditions) mostConditions k)
 
   pub fitting-facts : fitting f steps rows numbers ≡ true → Fitting f steps rows numbers
   unfolding fitting
   fitting-facts e =
-      let (s, r) = both (leb steps mostSteps) (rowsFit (f .tables) rows numbers) e in
-      record { steps-few = leb-true steps mostSteps s; rows-fit = rows-facts (f .tables) rows numbers r }
+      let (s, g) = both (leb steps mostSteps) (leb (f .conditions) mostConditions && rowsFit (f .tables) rows numbers) e in
+      let (k, r) = both (leb (f .conditions) mostConditions) (rowsFit (f .tables) rows numbers) g in
+      record { steps-few = leb-true steps mostSteps s; conditions-few = leb-true (f .conditions) mostConditions k; rows-fit = rows-facts (f .tables) rows numbers r }
 
   pub facts-fitting : Fitting f steps rows numbers → fitting f steps rows numbers ≡ true
-  facts-fitting h = few-steps (h .steps-few) ∙ facts-rows (f .tables) rows numbers (h .rows-fit)
+  facts-fitting h = few-steps (h .steps-few) (h .conditions-few) ∙ facts-rows (f .tables) rows numbers (h .rows-fit)
 
 -- ---- the print
 

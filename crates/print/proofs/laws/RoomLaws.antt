@@ -1,25 +1,27 @@
 -- The print of every answer fits its room: each table's set, the steps of a plan, and the rows of a result. Assumes nothing.
 use mathlib.Core.Bool.{Bool, true, false}
 use mathlib.Core.List.{List, [], _∷_, flatMap, _++_, map}
-use mathlib.Core.Path.{_≡_, refl}
+use mathlib.Core.Path.{_≡_, refl, _∙_}
 use Prim.Native.Nat.{ℕ, suc, _+_, _*_, _≤_, zero, _/_, _%_, _<_}
 use native.Mathlib.Nat.{mul-suc}
 use native.Mathlib.Omega.{arith}
 use lib.Dec.{leb, eqb}
-use lib.ListN.{length, length-append, take, length-take}
+use lib.ListN.{length, length-append, length-map, take, length-take}
 use Rattle.cells.specs.Choice.{if_then_else_}
 use Rattle.cells.specs.Limits.{mostConditions, mostTables, mostRows, mostSteps}
 use Rattle.cells.specs.Row.{blankRow, Row}
 use Rattle.rows.specs.Lists.{_isIn_, range}
 use Rattle.rows.proofs.laws.ListLaws.{here, there, keep-fewer, length-range}
 use Rattle.vocabulary.specs.Bits.{hasBit}
+use Rattle.vocabulary.specs.Facts.{tallyFrom, firstTallies}
 use Rattle.vocabulary.specs.declared.facts.Facts.{Facts}
+use Rattle.vocabulary.specs.declared.facts.Tally.{Tally}
 use Rattle.vocabulary.specs.declared.step.Step.{Step}
 use Rattle.text.specs.Bytes.{Bytes, bytes, lineFeed, tab}
-use Rattle.text.specs.Print.{digitsOf, printNumber, printEntry, bitNumbers, printFields, printSets, printRow, printRefusal, kindLetter, printStep}
-use Rattle.print.specs.inner.Room.{fieldRoom, bitsRoom, endRoom, tableRoom, rowRoom, refusalRoom, stepRoom, reportRoom}
+use Rattle.text.specs.Print.{digitsOf, printNumber, printEntry, bitNumbers, printFields, printSets, printTally, printTallies, printRow, printRefusal, kindLetter, printStep}
+use Rattle.print.specs.inner.Room.{fieldRoom, bitsRoom, endRoom, tableRoom, tallyRoom, rowRoom, refusalRoom, stepRoom, reportRoom}
 use Rattle.print.specs.inner.Fields.{printedField, printedNumber, entryField}
-use Rattle.print.proofs.laws.Lines.{end-line, row-line, refusal-line}
+use Rattle.print.proofs.laws.Lines.{end-line, tally-line, row-line, refusal-line}
 use Rattle.print.specs.inner.Printed.{reportBytes}
 
 -- ---- lists
@@ -87,6 +89,31 @@ sets-room t (s ∷ S) =
     let line : Bytes = printFields (map printNumber (t ∷ bitNumbers s)) in
     omega (arith, sets-room (suc t) S, end-room t s, length-append line (printSets (suc t) S))
 
+pub tally-room : (k : ℕ) (t : Tally) → length (printTally k t) ≤ tallyRoom
+unfolding bytes
+tally-room k t =
+    let a : Bytes = printedNumber k in
+    let b : Bytes = printedNumber (t .holds) in
+    let c : Bytes = printedNumber (t .fails) in
+    let d : Bytes = printedNumber (t .unknown) in
+    rw (tally-line k t)
+    (omega (
+      arith,
+      length-append (a ++ b ++ c ++ d) (lineFeed ∷ []),
+      length-append (a ++ b ++ c) d,
+      length-append (a ++ b) c,
+      length-append a b,
+      number-room k,
+      number-room (t .holds),
+      number-room (t .fails),
+      number-room (t .unknown),
+    ))
+
+pub tallies-room : (k : ℕ) (ts : List Tally) → length (printTallies k ts) ≤ tallyRoom * length ts
+unfolding printTallies
+tallies-room k [] = omega arith
+tallies-room k (t ∷ ts) = omega (arith, tallies-room (suc k) ts, tally-room k t, length-append (printTally k t) (printTallies (suc k) ts))
+
 pub row-room : (row : Row) → length row ≤ mostTables → length (printRow row) ≤ rowRoom
 unfolding bytes
 row-room row h =
@@ -152,20 +179,28 @@ pub rows-room : (rows : List Row) → length rows ≤ mostRows → ((row : Row) 
     → length (flatMap printRow rows) ≤ rowRoom * mostRows
 rows-room rows h wide = omega (arith, flatMap-room printRow rowRoom rows (λ row m. row-room row (wide row m)))
 
+first-length : (f : Facts) (n : ℕ) → length (firstTallies f n) ≡ n
+unfolding firstTallies
+first-length f n = length-map (range 0 n) (tallyFrom (f .holds) (f .fails) (f .unknown)) ∙ length-range 0 n
+
 -- the whole print
-pub report-room : (f : Facts) (steps : List Step) (rows : List Row) → f .tables ≤ mostTables → length steps ≤ mostSteps → length rows ≤ mostRows
+pub report-room : (f : Facts) (steps : List Step) (rows : List Row) → f .tables ≤ mostTables → f .conditions ≤ mostConditions → length steps ≤ mostSteps → length rows ≤ mostRows
     → ((row : Row) → row isIn rows → length row ≤ mostTables) → length (reportBytes f steps rows) ≤ reportRoom
 unfolding reportBytes
-report-room f steps rows a b c h =
+report-room f steps rows a u b c h =
     let S : Bytes = printSets 0 (take (f .tables) (f .sets)) in
+    let U : Bytes = printTallies 0 (firstTallies f (f .conditions)) in
     let P : Bytes = flatMap printStep steps in
     let R : Bytes = flatMap printRow rows in
     omega (
       arith,
-      length-append (S ++ P) R,
-      length-append S P,
+      length-append (S ++ U ++ P) R,
+      length-append (S ++ U) P,
+      length-append S U,
       sets-room 0 (take (f .tables) (f .sets)),
       length-take (f .tables) (f .sets),
+      tallies-room 0 (firstTallies f (f .conditions)),
+      first-length f (f .conditions),
       flatMap-room printStep stepRoom steps (λ s _. step-room s),
       rows-room rows c h,
     )

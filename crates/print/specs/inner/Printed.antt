@@ -7,26 +7,28 @@ use Prim.Native.Nat.{ℕ, _*_, _≤_}
 use lib.Dec.{leb, ltb}
 use lib.ListN.{take, length, drop}
 use Rattle.cells.specs.Choice.{if_then_else_}
-use Rattle.cells.specs.Limits.{mostTables, mostRows, mostSteps, printRoom}
+use Rattle.cells.specs.Limits.{mostTables, mostConditions, mostRows, mostSteps, printRoom}
 use Rattle.cells.specs.Row.{Row}
+use Rattle.vocabulary.specs.Facts.{firstTallies}
 use Rattle.vocabulary.specs.declared.facts.Facts.{Facts}
 use Rattle.vocabulary.specs.declared.step.Step.{Step}
 use Rattle.text.specs.Bytes.{Bytes}
-use Rattle.text.specs.Print.{printSets, printStep, printRow}
+use Rattle.text.specs.Print.{printSets, printTallies, printStep, printRow}
 use Rattle.print.specs.declared.whole.Printed.{Printed}
 use Rattle.print.specs.declared.whole.Printed.the-variants.{Bytes as Wrote, NoRoom, Unfit}
 
 -- the lines of an answer of the engine. Specification 11.3
 unfoldable pub reportBytes : Facts → List Step → List Row → Bytes
-reportBytes f steps rows = printSets 0 (take (f .tables) (f .sets)) ++ flatMap printStep steps ++ flatMap printRow rows
+reportBytes f steps rows =
+    printSets 0 (take (f .tables) (f .sets)) ++ printTallies 0 (firstTallies f (f .conditions)) ++ flatMap printStep steps ++ flatMap printRow rows
 
 -- whether so many tables and rows are those of an answer, and the rows stand in so many numbers. Specification 10.13
 unfoldable pub rowsFit : ℕ → ℕ → ℕ → Bool
 rowsFit tables rows numbers = leb tables mostTables && (leb rows mostRows && leb (rows * tables) numbers)
 
--- the same of an answer of the engine, with the count of its steps. Specification 10.13
+-- the same of an answer of the engine, with the counts of its steps and conditions. Specification 10.13
 unfoldable pub fitting : Facts → ℕ → ℕ → ℕ → Bool
-fitting f steps rows numbers = leb steps mostSteps && rowsFit (f .tables) rows numbers
+fitting f steps rows numbers = leb steps mostSteps && (leb (f .conditions) mostConditions && rowsFit (f .tables) rows numbers)
 
 -- both as facts. Specification 10.13
 pub record RowsFit (tables rows numbers : ℕ) : Type 0 where
@@ -37,6 +39,7 @@ pub record RowsFit (tables rows numbers : ℕ) : Type 0 where
 -- Specification 10.13
 pub record Fitting (f : Facts) (steps rows numbers : ℕ) : Type 0 where
   pub steps-few : steps ≤ mostSteps
+  pub conditions-few : f .conditions ≤ mostConditions
   pub rows-fit : RowsFit (f .tables) rows numbers
 
 -- the answer of a print, and the output afterwards. Specification 10.12

@@ -19,6 +19,10 @@ endRoom = fieldRoom + bitsRoom + 1
 abbrev pub tableRoom : ℕ
 tableRoom = 1 + endRoom
 
+-- a condition's line: its number and three counts
+abbrev pub tallyRoom : ℕ
+tallyRoom = 1 + 4 * fieldRoom + 1
+
 -- a pair's letter behind its tab
 abbrev pub kindRoom : ℕ
 kindRoom = 1 + 1
@@ -41,4 +45,4 @@ refusalRoom = 1 + fieldRoom + 1
 
 -- the lines of an answer (`report-room` of RoomLaws); an output has more, `printRoom` of Limits. Specification 10.12
 abbrev pub reportRoom : ℕ
-reportRoom = tableRoom * mostTables + stepRoom * mostSteps + rowRoom * mostRows
+reportRoom = tableRoom * mostTables + tallyRoom * mostConditions + stepRoom * mostSteps + rowRoom * mostRows

@@ -1,19 +1,22 @@
 -- The print of the report, by the answer of the call. Assumes nothing.
 use mathlib.Core.Path.{_≡_, refl, ap, sym, _∙_, subst, ap₂}
 use mathlib.Core.Bool.{Bool, true, false, and-true}
-use mathlib.Core.List.{List, _++_, flatMap}
-use Prim.Native.Nat.{ℕ, _≤_}
+use mathlib.Core.List.{List, [], _∷_, _++_, map, flatMap}
+use Prim.Native.Nat.{ℕ, zero, suc, _-_, _≤_}
 use native.Mathlib.Omega.{arith}
-use lib.ListN.{length, take, replicate}
-use lib.Seq.{take-at}
+use lib.ListN.{length, getD, take, replicate}
+use lib.Seq.{take-at, take-length}
 use Rattle.cells.specs.Choice.{if_then_else_}
-use Rattle.cells.specs.Limits.{mostSteps, resultRoom, printRoom}
+use Rattle.cells.specs.Limits.{mostSteps, mostConditions, resultRoom, printRoom}
 use Rattle.vocabulary.specs.Steps.{zeroStep}
-use Rattle.vocabulary.specs.Facts.{noFacts}
+use Rattle.rows.specs.Lists.{range}
+use Rattle.rows.proofs.laws.CountLaws.{take-range}
+use Rattle.vocabulary.specs.Facts.{noTally, noFacts, tallyFrom, firstTallies}
 use Rattle.vocabulary.specs.declared.facts.Facts.{Facts}
+use Rattle.vocabulary.specs.declared.facts.Tally.{Tally}
 use Rattle.vocabulary.specs.declared.step.Step.{Step}
 use Rattle.text.specs.Bytes.{Bytes}
-use Rattle.text.specs.Print.{printSets, printStep, printRow, printRefusal}
+use Rattle.text.specs.Print.{printSets, printTallies, printStep, printRow, printRefusal}
 use Rattle.print.specs.inner.Rows.{resultRows}
 use Rattle.print.specs.inner.Printed.{reportBytes, fitting, Prints}
 use Rattle.print.specs.inner.Printed as P
@@ -27,11 +30,29 @@ use Rattle.engine.specs.declared.answer.Answer.the-variants.{Rows, Refused}
 use Rattle.print_call.specs.PrintedCalls.{printed, printCall, printReportCall}
 use Rattle.print_call.proofs.laws.DirectPrint.{rows-fit, rows-again, enough-result, call-printed}
 
+-- the counts that stand beside an answer, read back
+beside : (f : Tally → ℕ) (ts : List Tally) (m k : ℕ) → f noTally ≡ 0 → getD (map f (ts ++ replicate m noTally)) k 0 ≡ f (getD ts k noTally)
+beside f [] zero k e = sym e
+beside f [] (suc m) zero e = refl
+beside f [] (suc m) (suc k) e = beside f [] m k e
+beside f (t ∷ ts) m zero e = refl
+beside f (t ∷ ts) m (suc k) e = beside f ts m k e
+
+tallies-again : (ts : List Tally) (m : ℕ)
+    → map (tallyFrom (map (λ (t : Tally). t .holds) (ts ++ replicate m noTally)) (map (λ (t : Tally). t .fails) (ts ++ replicate m noTally))
+    (map (λ (t : Tally). t .unknown) (ts ++ replicate m noTally))) (range 0 (length ts)) ≡ ts
+unfolding tallyFrom noTally
+tallies-again ts m =
+    ap (λ (g : ℕ → Tally). map g (range 0 (length ts)))
+    (λ i k. record { holds = beside (λ (t : Tally). t .holds) ts m k refl i; fails = beside (λ (t : Tally). t .fails) ts m k refl i; unknown = beside (λ (t : Tally). t .unknown) ts m k refl i })
+    ∙ sym (take-range noTally ts (length ts) (omega arith)) ∙ take-length ts
+
 -- what is printed of an answer, from what stands beside it
 pub answer-printed : (a : ReportAnswer) → reportBytes (factsOf a) (a .steps) (a .rows) ≡ printReport (answered a)
-unfolding reportBytes factsOf printReport
+unfolding reportBytes factsOf firstTallies printReport
 answer-printed a =
-    ap (λ (sets : List ℕ). printSets 0 sets ++ flatMap printStep (a .steps) ++ flatMap printRow (a .rows)) (take-at (a .sets) _ (length (a .sets)) refl)
+    ap₂ (λ (sets : List ℕ) (ts : List Tally). printSets 0 sets ++ printTallies 0 ts ++ flatMap printStep (a .steps) ++ flatMap printRow (a .rows))
+    (take-at (a .sets) _ (length (a .sets)) refl) (tallies-again (a .tallies) (mostConditions - length (a .tallies)))
 
 module _ (text : Bytes) (m : Lent) where
   abbrev none-yet : List Step
@@ -115,9 +136,13 @@ module _ (text : Bytes) (m : Lent) where
     few-steps : c .count ≤ mostSteps
     few-steps = subst (λ (n : ℕ). n ≤ mostSteps) (sym (this .count)) (report-bounded text (this .given) (this .outcome) .1)
 
+    few-conditions : c .facts .conditions ≤ mostConditions
+    unfolding factsOf
+    few-conditions = subst (λ (f : Facts). f .conditions ≤ mostConditions) (sym (this .facts)) (report-bounded text (this .given) (this .outcome) .2)
+
     pub report-fits : fitting (c .facts) (c .count) k (length (c .lent .result)) ≡ true
     report-fits = subst (λ (i : ℕ). fitting (c .facts) (c .count) i (length (c .lent .result)) ≡ true) (this .rows)
-        (facts-fitting _ _ _ _ (record { steps-few = few-steps; rows-fit = rows-fit bounded (m .result) (c .lent .result) (this .result) room }))
+        (facts-fitting _ _ _ _ (record { steps-few = few-steps; conditions-few = few-conditions; rows-fit = rows-fit bounded (m .result) (c .lent .result) (this .result) room }))
 
     some-rows : resultRows (c .facts .tables) k (c .lent .result) ≡ this .given .rows
     some-rows = ap (λ (i : ℕ). resultRows (c .facts .tables) i (c .lent .result)) (sym (this .rows)) ∙ rows-again bounded (m .result) (c .lent .result) (this .result) room

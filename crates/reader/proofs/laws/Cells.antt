@@ -1,14 +1,14 @@
 -- The cells that an accepted text's layout and cell buffer hold are the report's, at every table, row and column, also where there is none.
 -- Assumes nothing.
-use mathlib.Core.Path.{_≡_, refl, _∙_, ap}
+use mathlib.Core.Path.{_≡_, refl, _∙_, ap, sym}
 use mathlib.Core.Bool.{Bool, true, false, and-false}
 use mathlib.Core.List.{List, [], _++_, map}
-use Prim.Native.Nat.{ℕ, zero, suc, _≤_, _<_}
+use Prim.Native.Nat.{ℕ, zero, suc, _+_, _-_, _≤_, _<_}
 use native.Mathlib.Omega.{arith}
 use lib.Dec.{eqb, ltb}
 use lib.IntN.{ℤ}
-use lib.ListN.{replicate, getD, length, length-replicate, length-map, List·getD-eq-default}
-use lib.Seq.{sets}
+use lib.ListN.{replicate, getD, set, length, length-replicate, length-map, List·getD-eq-default}
+use lib.Seq.{sets, getD-set-other}
 use borrow.Author.Tests.{le-ltb, ltb-true, ltb-false}
 use Rattle.cells.proofs.laws.BoolLaws.{is-true}
 use Rattle.cells.specs.Cell.{blankCell}
@@ -27,10 +27,10 @@ use Rattle.reader.proofs.laws.FlatCells.{flatTables}
 use Rattle.reader.specs.inner.State.{noTables, closedRows}
 use Rattle.reader.specs.inner.Survey.{start}
 use Rattle.reader.specs.inner.Agrees.{linesAfter}
-use Rattle.reader.proofs.laws.KeptLaws.{columns-kept}
+use Rattle.reader.proofs.laws.KeptLaws.{columns-kept, rows-kept}
 use Rattle.reader.proofs.laws.QueryLaws.{sets-behind, done}
 use Rattle.reader.specs.inner.Query.{storedOf}
-use Rattle.reader.proofs.laws.Looked.{Wide, noTable, cells-looked}
+use Rattle.reader.proofs.laws.Looked.{Wide, noTable, rows-at, cells-looked}
 
 abbrev none : ℕ → List ℕ
 none n = replicate n 0
@@ -58,6 +58,27 @@ module _ (ls : List Line) (early : earlyRows ls ≡ []) (fits : length (tablesIn
       let n : length (map (λ (x : Table). x .columns) ts) ≡ length ts = length-map ts (λ (x : Table). x .columns) in
       ap (λ (x : List ℕ). getD x t 0) (columns-kept noTables (tableLines ls))
       ∙ sets-beyond mostTables (map (λ (x : Table). x .columns) ts) t (rw n fits) (rw n h)
+
+  rows-beyond : (t : ℕ) → 1 ≤ t → length ts ≤ t → getD (layout .rows) t 0 ≡ 0
+  unfolding storedOf closedRows linesAfter start noTables
+  rows-beyond t p h =
+      let n : length (map (λ (x : Table). length (x .rows)) ts) ≡ length ts = length-map ts (λ (x : Table). length (x .rows)) in
+      let base = set (none mostTables) (0 - 1) (0 + length (earlyRows ls)) in
+      ap (λ (x : List ℕ). getD x t 0) (rows-kept noTables (tableLines ls))
+      ∙ sets-behind base (map (λ (x : Table). length (x .rows)) ts) t 0 (omega (arith, n, fits)) (rw n h)
+      ∙ getD-set-other (none mostTables) (0 - 1) t (0 + length (earlyRows ls)) 0 (λ e. omega (arith, e, p))
+      ∙ zeros mostTables t
+
+  -- how many rows each table has, and that there are none of a table that there is not
+  pub rows-whole : 1 ≤ length ts → (t : ℕ) → getD (layout .rows) t 0 ≡ length (getD ts t noTable .rows)
+  unfolding noTable
+  rows-whole some t = go (ltb t (length ts)) refl
+    where
+      go : (b : Bool) → ltb t (length ts) ≡ b → getD (layout .rows) t 0 ≡ length (getD ts t noTable .rows)
+      go true e = rows-at ls early fits few t (ltb-true t (length ts) e)
+      go false e =
+          let h : length ts ≤ t = ltb-false t (length ts) e in
+          rows-beyond t (omega (arith, some, h)) h ∙ sym (ap (λ (x : Table). length (x .rows)) (List·getD-eq-default ts noTable h))
 
   wide : (t : ℕ) → t < length ts → Wide (getD ts t noTable .columns) (getD ts t noTable .rows)
   unfolding question4 reportOf

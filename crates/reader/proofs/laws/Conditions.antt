@@ -13,6 +13,7 @@ use borrow.Author.Tests.{ltb-true, ltb-false}
 use Rattle.cells.specs.Limits.{mostConditions}
 use Rattle.cells.specs.Row.{Row}
 use Rattle.cells.specs.Condition.{Cells, cellIn, sideIn, trueIn}
+use Rattle.cells.proofs.laws.ConditionLaws.{true-holds}
 use Rattle.cells.proofs.laws.OperatorLaws.{holds-outside}
 use Rattle.cells.specs.declared.condition.Condition.{Condition}
 use Rattle.vocabulary.specs.Report.{noCondition, queryOf, conditionAt}
@@ -28,8 +29,7 @@ use Rattle.reader.specs.inner.Query.{storedOf}
 
 -- a condition with code 0 is true in no row
 no-operator : (f : Cells) (k : Condition) (row : Row) → k .operator ≡ 0 → trueIn f k row ≡ false
-unfolding trueIn
-no-operator f k row e = holds-outside (k .operator) (cellIn f row (k .table) (k .column)) (sideIn f row (k .side)) (inl (omega arith))
+no-operator f k row e = true-holds f k row ∙ holds-outside (k .operator) (cellIn f row (k .table) (k .column)) (sideIn f row (k .side)) (inl (omega arith))
 
 replicated : (n i : ℕ) (z : Condition) → z .operator ≡ 0 → getD (replicate n z) i noCondition .operator ≡ 0
 unfolding noCondition

@@ -89,7 +89,7 @@ chosen none rest = rest
 chosen (some r) rest = some (r .0)
 
 module _ {A : Type 0} (f : Form A) (more : List (Form A)) (fs : List Bytes) where
-  pub first-chosen : firstOf (f ∷ more) fs ≡ chosen (f fs) (firstOf more fs)
+  first-chosen : firstOf (f ∷ more) fs ≡ chosen (f fs) (firstOf more fs)
   unfolding firstOf chosen
   first-chosen = go (f fs)
     where
@@ -111,7 +111,7 @@ module _ (x : Bytes) (fs : List Bytes) where
   unfolding word oneOf fieldOf
   word-none w h = sym (field-cons (oneOf ((w, tt) ∷ [])) x fs ∙ rw h)
 
-  pub form-none : {A : Type 0} (w : String) (f : Unit → Form A) → sameBytes x (bytes w) ≡ false → none ≡ (word w >>= f) (x ∷ fs)
+  form-none : {A : Type 0} (w : String) (f : Unit → Form A) → sameBytes x (bytes w) ≡ false → none ≡ (word w >>= f) (x ∷ fs)
   form-none w f h = then-none (word w) f (x ∷ fs) (word-none w h)
 
   no-letter : sameBytes x (bytes "T") ≡ false → sameBytes x (bytes "D") ≡ false → sameBytes x (bytes "J") ≡ false
@@ -129,7 +129,7 @@ module _ (x : Bytes) (fs : List Bytes) where
       (part-none orderPart (first-none formP [] (x ∷ fs) (form-none "P" (λ u. orderForm) p) refl) refl))
 
 module _ (l : Bytes) (to : ℕ) (e : to ≡ 0 + until tab (drop 0 l)) (h : to ≤ length l) where
-  pub line-fields : split tab l ≡ take to l ∷ fieldsFrom l (to + 1)
+  line-fields : split tab l ≡ take to l ∷ fieldsFrom l (to + 1)
   line-fields =
       let z : to - 0 ≡ to = omega arith in
       fields-all l ∙ field-here l 0 to e (omega arith) ∙ rw z

@@ -3,7 +3,7 @@
 use mathlib.Core.Path.{_≡_, subst, sym, ap, _∙_, refl}
 use mathlib.Core.Logic.{_⊎_, inl, inr, ⊎-elim, by-cases}
 use mathlib.Core.Bool.{Bool, true, false}
-use mathlib.Core.List.{[], _∷_, _++_, List, map, map-append}
+use mathlib.Core.List.{[], _∷_, List, map, map-append}
 use Prim.Native.Nat.{ℕ, _*_, _%_, _^_, _<_, zero, suc, _+_, _≤_}
 use native.Mathlib.Decide.{ℕ-discrete}
 use native.Mathlib.Numerals.{add-one}
@@ -18,7 +18,7 @@ use Rattle.cells.proofs.laws.Below.{at-below}
 use Rattle.cells.specs.Choice.{if_then_else_}
 use Rattle.cells.proofs.laws.BoolLaws.{same-test}
 use Rattle.rows.specs.Lists.{range, has, keep}
-use Rattle.rows.proofs.laws.ListLaws.{or-left, or-right, range-snoc, has-elim, range-elim, has-intro, range-intro, keep-append, length-range, getD-range}
+use Rattle.rows.proofs.laws.ListLaws.{or-left, or-right, range-next, has-elim, range-elim, has-intro, range-intro, keep-append, length-range, getD-range}
 use Rattle.vocabulary.specs.Bits.{wordSize, hasBit}
 use Rattle.vocabulary.specs.Steps.{bitsOf}
 use Rattle.vocabulary.proofs.laws.BitLaws.{has-or, has-and, has-none, bits-append}
@@ -95,9 +95,6 @@ module _ (f : ℕ → ℕ) where
 
 -- ---- kept numbers
 
-pub range-next : (n : ℕ) → range 0 (n + 1) ≡ range 0 n ++ (n ∷ [])
-range-next n = rw (add-one n) (range-snoc 0 n ∙ ap (λ (k : ℕ). range 0 n ++ (k ∷ [])) (omega arith))
-
 -- whether a number is in a range, by its two bounds
 pub range-below : (s n k : ℕ) → k < s → has (range s n) k ≡ false
 range-below s n k h = same-test (has (range s n) k) false (λ t. let (a, b) = range-elim s n (has-elim (range s n) k t) in absurd (omega arith))
@@ -117,7 +114,7 @@ keep-one p n = go (p n)
 
 -- one number more is looked at
 pub keep-next : (p : ℕ → Bool) (n : ℕ) → bitsOf (keep p (range 0 (n + 1))) ≡ bitOr (bitsOf (keep p (range 0 n))) (onlyIf (p n) (2 ^ n))
-keep-next p n = rw (range-next n, keep-append p (range 0 n) (n ∷ []))
+keep-next p n = rw (add-one n, range-next n, keep-append p (range 0 n) (n ∷ []))
     (bits-append (keep p (range 0 n)) (keep p (n ∷ [])) ∙ ap (bitOr (bitsOf (keep p (range 0 n)))) (keep-one p n))
 
 -- one table's word
@@ -141,4 +138,4 @@ module _ {A : Type 0} (f : ℕ → A) where
   -- the next element is stored
   pub tab-next : (l : List A) (i : ℕ) (a : A) → i < length l → take i l ≡ map f (range 0 i) → a ≡ f i → take (i + 1) (set l i a) ≡ map f
       (range 0 (i + 1))
-  tab-next l i a h e g = rw (range-next i, add-one i) (take-suc-set l i a h ∙ rw (e, g) (sym (map-append f (range 0 i) (i ∷ []))))
+  tab-next l i a h e g = rw (add-one i, range-next i) (take-suc-set l i a h ∙ rw (e, g) (sym (map-append f (range 0 i) (i ∷ []))))

@@ -33,6 +33,6 @@ pub record Stands (s : StoredQuery) (cells : List ℤ) (r : Report) : Type 0 whe
   -- each number has the truth of its condition, also behind the last, where no condition is left out
   pub truths : s .«condition_count» ≤ mostConditions → (f : Cells) (c : ℕ) (row : Row)
       → trueIn f (getD (s .conditions) c noCondition) row ≡ trueIn f (conditionAt (queryOf r) c) row
-  -- the rows and the cells of the tables
-  pub rows : (t : ℕ) → t < s .«table_count» → getD (s .layout .rows) t 0 ≡ rowCountIn r t
+  -- the rows and the cells of the tables; of a table that there is not, none
+  pub rows : (t : ℕ) → getD (s .layout .rows) t 0 ≡ rowCountIn r t
   pub cells-same : (t row column : ℕ) → cellsIn cells (s .layout) t row column ≡ cellsOf r t row column

@@ -1,5 +1,6 @@
 //! Puts texts to the proved library and to this crate's engine and compares all that the calls return and leave in
-//! lent memory: the status, the answer's numbers (counts, sets, steps), the prints, and every lent buffer.
+//! lent memory: the status, the answer's numbers (counts, sets, steps, and how often each condition is true, false and
+//! unknown), the prints, and every lent buffer.
 //!
 //!     differ [--seed SEED] [--count COUNT] [--seconds SECONDS]
 //!
@@ -7,12 +8,12 @@
 //! buffers begin with numbers made by chance; they are as long as they must be, longer or shorter. The memory behind
 //! what is lent is compared too.
 //!
-//! Exit status 1: a difference, whose text is written to target/differ.in, or a refusal other than 10 that did not
-//! occur. Question 10 turns down no text.
+//! Exit status 1: a difference, whose text is written to target/differ.in, or a refusal other than 10 or an outcome of
+//! conditions that did not occur. Question 10 turns down no text.
 
 use hashjoin::generate::{Random, each_fixed_text, each_random_text};
 use hashjoin::lent::{LEAST, Lent};
-use hashjoin::{Answer, Rows, STEPS, Step, write_direct, write_report};
+use hashjoin::{Answer, CONDITIONS, ROWS, Rows, STEPS, Step, Tally, write_direct, write_report};
 use rumbethola::lent as library;
 use std::process::exit;
 use std::time::{Duration, Instant};
@@ -127,6 +128,51 @@ impl Counts {
     }
 }
 
+/// What the counts of conditions were in answers of the report.
+#[derive(Default)]
+struct Outcomes {
+    conditions: u64,
+    /// Answers with as many conditions as there can be.
+    full: u64,
+    /// Conditions without a pair of rows; true, false and unknown of some pairs; and true, false or unknown of all
+    /// pairs of two tables with as many rows as there can be.
+    no_pair: u64,
+    mixed: u64,
+    all_pairs: [u64; 3],
+}
+
+impl Outcomes {
+    fn count(&mut self, rows: &Rows) {
+        self.full += u64::from(rows.conditions == CONDITIONS);
+        for tally in &rows.tallies[..rows.conditions] {
+            let counts = three(tally);
+            self.conditions += 1;
+            self.no_pair += u64::from(counts.iter().all(|&count| count == 0));
+            self.mixed += u64::from(counts.iter().all(|&count| count > 0));
+            for (all, count) in self.all_pairs.iter_mut().zip(counts) {
+                *all += u64::from(count == (ROWS * ROWS) as u64);
+            }
+        }
+    }
+
+    fn print(&self) {
+        let [holds, fails, unknown] = self.all_pairs;
+        println!(
+            "conditions: {} in answers, {} answers with {CONDITIONS}; without a pair {}, true, false and unknown {}; \
+             of 65536 pairs all true {holds}, all false {fails}, all unknown {unknown}",
+            self.conditions, self.full, self.no_pair, self.mixed
+        );
+    }
+
+    fn lacks(&self) -> bool {
+        self.full == 0 || self.no_pair == 0 || self.mixed == 0 || self.all_pairs.contains(&0)
+    }
+}
+
+fn three(tally: &Tally) -> [u64; 3] {
+    [tally.holds, tally.fails, tally.unknown].map(u64::from)
+}
+
 struct Differ {
     /// What every call begins with, what it must leave, and what it leaves.
     start: Memory,
@@ -136,13 +182,14 @@ struct Differ {
     calls: u64,
     report: Counts,
     direct: Counts,
+    outcomes: Outcomes,
 }
 
 impl Differ {
     fn new(seed: u64) -> Differ {
         let [start, expected, found] = [(); 3].map(|()| Memory::new());
-        let (report, direct) = Default::default();
-        Differ { start, expected, found, random: Random::new(!seed), calls: 0, report, direct }
+        let (report, direct, outcomes) = Default::default();
+        Differ { start, expected, found, random: Random::new(!seed), calls: 0, report, direct, outcomes }
     }
 
     /// The lengths of a call by chance: now and then one is too short.
@@ -177,6 +224,9 @@ impl Differ {
         let (cells, work, result) = parts!(found, lengths);
         let status = library::report(text, cells, work, result, &mut found.answer[..lengths[3]]);
         self.report.count(status);
+        if let (Ok(rows), 0) = (&answer, status) {
+            self.outcomes.count(rows);
+        }
         if lengths[3] < library::ANSWER {
             same("report", text, lengths, status == library::NO_ROOM, &self.start, found);
         } else {
@@ -225,6 +275,8 @@ impl Differ {
 /// The numbers of an answer of the report.
 fn report_numbers(answer: &Answer, steps: &[Step]) -> Vec<u64> {
     let (rows, tables, sets) = answer.map_or((0, 0, [0; 8]), |rows| (rows.rows, rows.tables, rows.sets));
+    let none = (0, [Tally::default(); CONDITIONS]);
+    let (conditions, tallies) = answer.map_or(none, |rows| (rows.conditions, rows.tallies));
     let count = steps.iter().take_while(|step| step.kind != 0).count();
     let mut numbers = vec![rows as u64, tables as u64, count as u64, answer.err().unwrap_or(0).into()];
     numbers.extend(sets);
@@ -232,6 +284,8 @@ fn report_numbers(answer: &Answer, steps: &[Step]) -> Vec<u64> {
         let [first, second, rows] = [step.first, step.second, step.rows].map(u64::from);
         numbers.extend([step.kind.into(), first, second, rows, step.conditions]);
     }
+    numbers.push(conditions as u64);
+    numbers.extend(tallies.iter().flat_map(three));
     numbers
 }
 
@@ -336,9 +390,14 @@ fn main() {
     println!("{fixed} fixed texts, {chance} made by chance from seed {} on, {} calls", options.seed, differ.calls);
     differ.report.print("report");
     differ.direct.print("direct");
+    differ.outcomes.print();
     println!("no difference, {:.1} s", began.elapsed().as_secs_f64());
     if differ.report.lacks(&[10]) || differ.direct.lacks(&[9, 10]) {
         println!("a refusal did not occur");
+        exit(1)
+    }
+    if differ.outcomes.lacks() {
+        println!("an outcome of conditions did not occur");
         exit(1)
     }
 }

@@ -1,7 +1,7 @@
 //! Reports at each limit, and one past it.
 
-use super::reports::{Condition, Join, Other, Report, Table};
-use crate::TEXT;
+use super::reports::{Condition, Join, OPERATORS, Other, Report, Table};
+use crate::{BLANK, CONDITIONS, ROWS, TEXT};
 
 pub fn each(take: &mut dyn FnMut(&[u8])) {
     for report in reports() {
@@ -50,7 +50,59 @@ fn reports() -> Vec<Report> {
     }
     reports.extend(past_a_byte());
     reports.push(longest_plan());
+    reports.extend(counted_conditions());
     reports
+}
+
+/// Conditions with as many pairs as there can be, with none, with blanks on either side and on both, with cells at the
+/// ends of their range, stated twice, and as many as there can be. All six operators at once are true of no pair, so
+/// that results stay small.
+fn counted_conditions() -> Vec<Report> {
+    let ends = [BLANK, -i32::MAX, 1 - i32::MAX, -1, 0, 1, i32::MAX - 1, i32::MAX];
+    let some = || column(ends.to_vec());
+    let mut reports = vec![];
+    for cells in [[1, 1], [1, BLANK], [BLANK, 1], [BLANK, BLANK], [1, 2], [-i32::MAX, i32::MAX]] {
+        let [first, second] = cells.map(|cell| column(vec![cell; ROWS]));
+        for outer in [false, true] {
+            reports.push(compared([first.clone(), second.clone()], outer, OPERATORS.len()));
+        }
+        for [first, second] in [[first.clone(), some()], [some(), second.clone()], [first, column(vec![])]] {
+            reports.push(compared([first, second], true, CONDITIONS));
+        }
+    }
+    // `<=` is true of all pairs but one, and `>` of one: counts of 65,535 and 1.
+    let mut tables = [1, 3].map(|cell| column(vec![cell; ROWS]));
+    tables[0].rows[ROWS - 1] = vec![3];
+    tables[1].rows[0] = vec![2];
+    reports.push(compared(tables, false, CONDITIONS));
+    reports.push(compared([some(), some()], false, CONDITIONS));
+    for constant in ends.into_iter().filter(|&cell| cell != BLANK) {
+        for rows in [ends.to_vec(), vec![constant; ROWS], vec![BLANK; ROWS], vec![]] {
+            let mut report = compared([column(rows), some()], true, OPERATORS.len());
+            let against = |operator| Condition { table: 0, column: 0, operator, other: Other::Constant(constant) };
+            report.joins[0].conditions.extend(OPERATORS.map(against));
+            report.joins[0].conditions.extend(OPERATORS.map(|operator| Condition { table: 1, ..against(operator) }));
+            reports.push(report);
+        }
+    }
+    reports
+}
+
+/// A table of one column.
+fn column(cells: Vec<i32>) -> Table {
+    Table { columns: 1, rows: cells.into_iter().map(|cell| vec![cell]).collect() }
+}
+
+/// Two tables of one column, compared by each operator in turn, every second round from table 1's side.
+fn compared(tables: [Table; 2], outer: bool, conditions: usize) -> Report {
+    let mut report = chain(tables.to_vec(), outer);
+    let compare = |number: usize| {
+        let table = number / OPERATORS.len() % 2;
+        let other = Other::Column(1 - table, 0);
+        Condition { table, column: 0, operator: OPERATORS[number % OPERATORS.len()], other }
+    };
+    report.joins[0].conditions = (0..conditions).map(compare).collect();
+    report
 }
 
 /// Counts that a byte cannot hold, each beside one that would be right.

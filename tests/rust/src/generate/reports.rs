@@ -1,7 +1,7 @@
 //! Valid reports.
 
 use super::Random;
-use crate::BLANK;
+use crate::{BLANK, ROWS};
 use std::fmt::Write;
 
 pub const OPERATORS: [&str; 6] = ["<", "=", "<=", ">", "<>", ">="];
@@ -54,6 +54,9 @@ struct Node {
 impl Report {
     /// A report that questions 2 to 10 let pass.
     pub fn random(random: &mut Random) -> Report {
+        if random.one_in(200) {
+            return Report::of_many_pairs(random);
+        }
         let count = random.pick(&[1, 2, 2, 3, 3, 3, 4, 4, 4, 5, 5, 6, 6, 7, 8]);
         // Many rows go with many values, so that results stay small.
         let (rows, values) = match random.below(6) {
@@ -70,6 +73,33 @@ impl Report {
             0 | 1 => (),
             2 => report.order = report.joins.iter().map(|join| join.sides).collect(),
             _ => report.order = order(count, random),
+        }
+        report
+    }
+
+    /// Two tables of up to 256 rows, so that a condition has up to 65,536 pairs. The join asks for equal cells in
+    /// column 0, where no two cells of a table are equal, so that its result stays small.
+    fn of_many_pairs(random: &mut Random) -> Report {
+        let mut report = Report::default();
+        for _ in 0..2 {
+            let fewer = random.below(ROWS);
+            let rows = random.pick(&[ROWS, ROWS, ROWS - 1, fewer]);
+            let (values, blanks) = (random.pick(&[1, 2, 300]), random.pick(&[1, 2, 10, 1000]));
+            let mut keys: Vec<i32> = (0..rows as i32).collect();
+            let mut row = || vec![take(&mut keys, random), cell(values, blanks, random)];
+            report.tables.push(Table { columns: 2, rows: (0..rows).map(|_| row()).collect() });
+        }
+        let sides = [vec![0], vec![1]];
+        let equal = Condition { table: 0, column: 0, operator: EQUAL, other: Other::Column(1, 0) };
+        let outer = random.one_in(2);
+        let mut join = Join { outer, sides: [0, 1], under: sides.clone(), allowed: sides, conditions: vec![equal] };
+        for _ in 0..1 + random.below(6) {
+            let more = report.one_more(&join, 3, random);
+            join.conditions.push(more);
+        }
+        report.joins.push(join);
+        if random.one_in(2) {
+            report.order = order(2, random);
         }
         report
     }
@@ -98,7 +128,7 @@ impl Report {
             let between = self.between(&join, random);
             join.conditions.push(between);
             while random.one_in(3) {
-                let more = self.condition(&join, values, random);
+                let more = self.one_more(&join, values, random);
                 let place = random.below(join.conditions.len() + 1);
                 join.conditions.insert(place, more);
             }
@@ -114,6 +144,23 @@ impl Report {
             sides.reverse();
         }
         self.compare(sides[0], sides[1], random)
+    }
+
+    /// One more condition of the join, now and then over columns that an earlier one compares: the same line again,
+    /// with another operator, or read from its other side.
+    fn one_more(&self, join: &Join, values: usize, random: &mut Random) -> Condition {
+        if !random.one_in(4) {
+            return self.condition(join, values, random);
+        }
+        let mut again = random.pick(&join.conditions);
+        if random.one_in(2) {
+            again.operator = random.pick(&OPERATORS);
+        }
+        if let (Other::Column(second, of_second), true) = (again.other, random.one_in(2)) {
+            again.other = Other::Column(again.table, again.column);
+            (again.table, again.column) = (second, of_second);
+        }
+        again
     }
 
     /// Any condition that the join may have.
@@ -196,8 +243,13 @@ fn table(most_rows: usize, values: usize, random: &mut Random) -> Table {
     let columns = if random.one_in(8) { 1 + random.below(8) } else { 1 + random.below(3) };
     let rows = if random.one_in(8) { 0 } else { 1 + random.below(most_rows) };
     let blanks = random.pick(&[4, 10, 1000]);
-    let cell = |random: &mut Random| if random.one_in(blanks) { BLANK } else { value(values, random) };
-    Table { columns, rows: (0..rows).map(|_| (0..columns).map(|_| cell(random)).collect()).collect() }
+    let rows = (0..rows).map(|_| (0..columns).map(|_| cell(values, blanks, random)).collect()).collect();
+    Table { columns, rows }
+}
+
+/// A cell; one in `blanks` is blank.
+fn cell(values: usize, blanks: usize, random: &mut Random) -> i32 {
+    if random.one_in(blanks) { BLANK } else { value(values, random) }
 }
 
 /// A cell that is not blank, most often one of the first `values` numbers.

@@ -24,17 +24,27 @@ put-sets-requires c κs = search needs
 put-steps-requires : tie.Need-put-steps-requires
 put-steps-requires c κs = search needs
 
+put-requires : tie.Need-put-requires
+put-requires c κs = search needs
+
+put-tallies-requires : tie.Need-put-tallies-requires
+put-tallies-requires c κs = search needs
+
 same-length : tie.Need-same-length
 same-length c = search needs
 
 returns : tie.Need-returns
 returns c =
-    let s = c .before .before in
+    let t = c .before .before in
+    let n = t .before .before .before .before .before .before .before in
+    let s = n .before .before .before .before in
     let m = s .before .before .before .before in
     let k = m .before .before .before .before in
     let r = k .before .before .before in
     written-as (answer-parts _ _ _ _ (r .rows-of .ensures) (r .before .status-of .ensures)) (omega arith)
-    (written-then (written-then (k .put-counts .ensures) (m .put-sets .ensures)) (s .put-steps .ensures))
+    (written-then
+    (written-then (written-then (written-then (k .put-counts .ensures) (m .put-sets .ensures)) (s .put-steps .ensures)) (n .put .ensures))
+    (t .put-tallies .ensures))
 
 pub put-answer-spec : {M : Type 1} → statement M
 put-answer-spec =
@@ -46,5 +56,7 @@ put-answer-spec =
     put-counts-requires
     put-sets-requires
     put-steps-requires
+    put-requires
+    put-tallies-requires
     same-length
     returns)

@@ -10,7 +10,7 @@ use Rattle.print.specs.inner.Output.{Written}
 use Rattle.print.proofs.laws.OutputLaws.{written-as, written-none}
 use Rattle.print.proofs.laws.Loops.{upTo, written-turn}
 use Rattle.capi.specs.Numbers.{stepNumbers}
-use Rattle.capi.proofs.laws.NumberLaws.{steps-all}
+use Rattle.capi.proofs.laws.NumberLaws.{parts-all}
 use Rattle.capi.proofs.numbers.put_steps.Statement.{statement}
 use Rattle.capi.proofs.numbers.put_steps.Tie as tie
 
@@ -54,7 +54,7 @@ returns : tie.Need-returns Inv-loop μ-loop
 returns c =
     let l = c .before in
     let a = l .before .before in
-    written-as (steps-all _ _ (search needs)) (search needs) (l .loop .inv .2)
+    written-as (parts-all stepNumbers zeroStep _ _ (search needs)) (search needs) (l .loop .inv .2)
 
 pub put-steps-spec : {M : Type 1} → statement M
 put-steps-spec =

@@ -12,13 +12,13 @@ turned-down-requires c κs = search needs
 returns : tie.Need-returns
 returns c = ends-away (c .before .if1 .taken) (c .turned-down .ensures)
 
-cast-tables : tie.Need-cast-tables
-cast-tables c = search needs
+cast-pairs : tie.Need-cast-pairs
+cast-pairs c = search needs
 
 sub-pairs : tie.Need-sub-pairs
 sub-pairs c =
     let i = c .before .before .before .before in
-    let h = i .before .before .before .before .pre (i .if1 .left) .0 in
+    let h = i .before .before .before .before .pre (i .if1 .left) .some in
     search needs
 
 finish-run-requires : tie.Need-finish-run-requires
@@ -27,10 +27,15 @@ finish-run-requires c κs = search needs
 enum-known-found : tie.Need-enum-known-found
 enum-known-found c = search needs
 
+facts-of-requires : tie.Need-facts-of-requires
+facts-of-requires c κs =
+    let i = c .before .before .before .before .before .before .before .before .before .before .before .before in
+    i .before .before .before .before .pre (i .if1 .left)
+
 with-counts-requires : tie.Need-with-counts-requires
 with-counts-requires c κs =
-    let i = c .before .before .before .before .before .before .before .before .before .before .before .before in
-    let h = i .before .before .before .before .pre (i .if1 .left) .1 in
+    let i = c .before .before .before .before .before .before .before .before .before .before .before .before .before in
+    let h = i .before .before .before .before .pre (i .if1 .left) .tables in
     search needs
 
 answered-requires : tie.Need-answered-requires
@@ -48,11 +53,12 @@ same-length c = search needs
 returns-2 : tie.Need-returns-2
 returns-2 c =
     let n = c .before in
-    let f = n .before .before .before .before .before .before in
+    let g = n .before in
+    let f = g .before .before .before .before .before .before in
     let i = f .before .before .before .before .before .before .before in
     let s = i .before .before .before .before in
-    let l : length (s .args .r .counts) ≡ 8 = sym (length-map (s .args .r .counts) _) ∙ s .good .1 .1 .1 .0 .1 .1 .1 .0 .1 .0 .1 in
-    ends-rows (i .if1 .left) l (f .finish-run .ensures) _ (n .before .before .found .given .1) (c .answered .ensures) (n .with-counts .ensures)
+    let l : length (s .args .r .counts) ≡ 8 = sym (length-map (s .args .r .counts) _) ∙ s .good .1 .1 .1 .1 .0 .1 .1 .1 .0 .1 .0 .1 in
+    ends-rows (i .if1 .left) l (f .finish-run .ensures) _ (g .before .before .found .given .1) (c .answered .ensures) (g .facts-of .ensures) (n .with-counts .ensures)
 
 same-length-2 : tie.Need-same-length-2
 same-length-2 c = search needs
@@ -62,7 +68,7 @@ returns-3 c =
     let f = c .before .before .before .before .before in
     let i = f .before .before .before .before .before .before .before in
     let s = i .before .before .before .before in
-    let l : length (s .args .r .counts) ≡ 8 = sym (length-map (s .args .r .counts) _) ∙ s .good .1 .1 .1 .0 .1 .1 .1 .0 .1 .0 .1 in
+    let l : length (s .args .r .counts) ≡ 8 = sym (length-map (s .args .r .counts) _) ∙ s .good .1 .1 .1 .1 .0 .1 .1 .1 .0 .1 .0 .1 in
     ends-over (i .if1 .left) l (f .finish-run .ensures) (c .before .enum-told .given .1) (c .turned-down2 .ensures)
 
 pub hand-over-spec : {M : Type 1} → statement M
@@ -71,10 +77,11 @@ hand-over-spec =
     (tie.spec
     turned-down-requires
     returns
-    cast-tables
+    cast-pairs
     sub-pairs
     finish-run-requires
     enum-known-found
+    facts-of-requires
     with-counts-requires
     answered-requires
     enum-told

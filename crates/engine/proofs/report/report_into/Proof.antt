@@ -89,7 +89,7 @@ use Rattle.engine.proofs.planned.start_of.Symbol as start-def
 use Rattle.engine.proofs.planned.start_of.Met as start-thm
 use Rattle.engine.specs.Calls.{reportCall}
 use Rattle.engine.specs.inner.Planning.{refusedReply, asCall}
-use Rattle.engine.specs.inner.Preparing.{enoughLent, TablesWithin, Concludes}
+use Rattle.engine.specs.inner.Preparing.{enoughLent, Within, Concludes}
 use Rattle.engine.proofs.laws.ReportCode.{prepared-within, report-short, report-done}
 use Rattle.engine.specs.declared.planned.Reply.{Reply}
 use Rattle.engine.specs.declared.planned.Concluded.{Concluded}
@@ -503,7 +503,7 @@ module _ {M : Type 1} (𝓤 : URA M) (H : Heap 𝓤) (A : Atoms 𝓤) (W : Given
       abbrev to-end : End 𝓤 H A mem run .Ghost
       to-end = (((κc, (κw, (κv, tt))), (qc, (qw, (qv, tt))), tt, (xc γc c, (xw γw w, (xv γv v₀, (p, (r, tt))))), (sc ∷ [], (sw ∷ [], (sv ∷ [], (prep-val p ∷ [], (run-val r ∷ [], tt)))))), tt)
 
-      asks-end : TablesWithin p → ent 𝓤 (⋆ 𝓤 H A (Cells c ∷ Work w ∷ Result v₀ ∷ [])) (End 𝓤 H A mem run .pre to-end)
+      asks-end : Within p → ent 𝓤 (⋆ 𝓤 H A (Cells c ∷ Work w ∷ Result v₀ ∷ [])) (End 𝓤 H A mem run .pre to-end)
       asks-end within =
           qed W (Cells c ∷ Work w ∷ Result v₀ ∷ []) ∵ nothing ! $ owned ! R.the-row (Is R.the-row) (LL.makes R.the-type R′.the-plain 𝓤 H A) r _ r-is $ fjoin ! $ owned ! P.the-row (Is P.the-row) (LL.makes P.the-type P′.the-plain 𝓤 H A) p _ p-is $ fjoin ! $ nothing ! $
           -- [true; what p and r own; cells; work; result]

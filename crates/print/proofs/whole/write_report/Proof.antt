@@ -3,12 +3,16 @@ use mathlib.Core.Path.{refl}
 use native.Mathlib.Omega.{arith}
 use borrow.Author.Needs.{needs}
 use Rattle.print.proofs.laws.OutputLaws.{written-as, written-then}
+use Rattle.vocabulary.specs.Facts.{firstTallies}
 use Rattle.print.specs.inner.Printed.{reportBytes}
 use Rattle.print.proofs.whole.write_report.Statement.{statement}
 use Rattle.print.proofs.whole.write_report.Tie as tie
 
 write-sets-requires : tie.Need-write-sets-requires
 write-sets-requires c κs = search needs
+
+write-tallies-requires : tie.Need-write-tallies-requires
+write-tallies-requires c κs = search needs
 
 write-steps-requires : tie.Need-write-steps-requires
 write-steps-requires c κs = search needs
@@ -20,15 +24,17 @@ same-length : tie.Need-same-length
 same-length c = search needs
 
 returns : tie.Need-returns
-unfolding reportBytes
+unfolding reportBytes firstTallies
 returns c =
     let r = c .before .before in
     let s = r .before .before .before .before in
-    let t = s .before .before .before .before in
+    let u = s .before .before .before .before in
+    let t = u .before .before .before .before .before .before .before in
     let h = t .before .before .before .before .before .pre .0 in
-    written-as refl (omega (arith, h .rows-fit .tables-few, h .rows-fit .rows-few, h .steps-few)) (written-then (written-then (t .write-sets .ensures) (s .write-steps .ensures)) (r .write-rows .ensures))
+    written-as refl (omega (arith, h .rows-fit .tables-few, h .conditions-few, h .rows-fit .rows-few, h .steps-few))
+    (written-then (written-then (written-then (t .write-sets .ensures) (u .write-tallies .ensures)) (s .write-steps .ensures)) (r .write-rows .ensures))
 
 pub write-report-spec : {M : Type 1} → statement M
 write-report-spec =
     tie.close
-    (tie.spec write-sets-requires write-steps-requires write-rows-requires same-length returns)
+    (tie.spec write-sets-requires write-tallies-requires write-steps-requires write-rows-requires same-length returns)
