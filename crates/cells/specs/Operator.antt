@@ -51,19 +51,19 @@ mirrorOf op = op / 4 + op / 2 % 2 * 2 + op % 2 * 4
 unfoldable pub truthOf : ℕ → ℤ → ℤ → Truth
 truthOf op x y = if isBlank x || isBlank y then Unknown else if says op x y then True else False
 
--- whether it comes out true: joins and blanking "make no difference between the last two". Specification 4.4
+-- whether it comes out true, which is all that joins ask; and "blanking still makes no difference between the last two". Specification 4.4
 unfoldable pub isTrue : Truth → Bool
 isTrue True = true
 isTrue False = false
 isTrue Unknown = false
 
--- whether it comes out false, and whether it comes out unknown. Specification 4.4
+-- whether it comes out false. Specification 4.4
 unfoldable pub isFalse : Truth → Bool
 isFalse True = false
 isFalse False = true
 isFalse Unknown = false
 
--- Specification 4.4
+-- whether it comes out unknown. Specification 4.4
 unfoldable pub isUnknown : Truth → Bool
 isUnknown True = false
 isUnknown False = false
