@@ -61,19 +61,24 @@ pub record ReportCall : Type 0 where
   pub lent : Lent
   pub steps : List Step
 
+-- so many tables with these sets, and so many conditions with these counts: the three counts of a condition stand in three lists. `factsOf`
+-- has them of an answer, and what the code hands over has them of work space. Specification 10.7
+abbrev pub factsWith : ℕ → List ℕ → ℕ → List Tally → Facts
+factsWith tables sets conditions ts = record {
+  tables = tables;
+  sets = sets;
+  conditions = conditions;
+  holds = map (λ (t : Tally). t .holds) ts;
+  fails = map (λ (t : Tally). t .fails) ts;
+  unknown = map (λ (t : Tally). t .unknown) ts;
+}
+
 -- what stands beside an answer: how many tables there are, and each one's set as bits; how many conditions there are, and each one's
 -- counts; of a table or a condition that there is not, none. Specification 10.7
 unfoldable pub factsOf : ReportAnswer → Facts
 factsOf a =
-    let ts = a .tallies ++ replicate (mostConditions - length (a .tallies)) noTally in
-    record {
-      tables = length (a .sets);
-      sets = a .sets ++ replicate (mostTables - length (a .sets)) 0;
-      conditions = length (a .tallies);
-      holds = map (λ (t : Tally). t .holds) ts;
-      fails = map (λ (t : Tally). t .fails) ts;
-      unknown = map (λ (t : Tally). t .unknown) ts;
-    }
+    factsWith (length (a .sets)) (a .sets ++ replicate (mostTables - length (a .sets)) 0) (length (a .tallies))
+    (a .tallies ++ replicate (mostConditions - length (a .tallies)) noTally)
 
 -- a call that question 1 did not turn down; after a refusal there is no table, no condition and no step. Specification 10.2, 10.7
 unfoldable pub reportAfter : Outcome ReportAnswer → Lent → List Step → ReportCall

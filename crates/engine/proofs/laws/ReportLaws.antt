@@ -56,7 +56,7 @@ use Rattle.executor.proofs.laws.PlanRuns.{PlanRan, ran, over}
 use Rattle.executor.specs.Runs.{question11, results, withinLimit, reportRows, pairCounts, reportSteps}
 use Rattle.engine.specs.Answers.{Outcome, ReportAnswer, refused, reportQuestions, outcomeBy, reportAnswer, reportOutcome, answered}
 use Rattle.engine.proofs.laws.AnswerLaws.{refused-early, outcome-answered, outcome-refused}
-use Rattle.engine.specs.Calls.{factsOf, written}
+use Rattle.engine.specs.Calls.{factsWith, factsOf, written}
 use Rattle.engine.proofs.laws.Kept.{nine-yes, query-kept}
 use Rattle.engine.proofs.laws.PlanningLaws.{concludedFor, resultAfter, Reported, StepsRun, rows-counted}
 use Rattle.engine.specs.inner.Planning.{turnedDown, answeredWith, withCounts, factsIn, handedOver}
@@ -272,14 +272,7 @@ module _ (bs : Bytes) {s : StoredQuery} {cells : List ℤ} {r : Report} (read : 
         let b : setWords (blankingSets (queryIn s)) ≡ map bitsOf (blankingSets q) ++ replicate (mostTables - length (map bitsOf (blankingSets q))) 0 =
         ap (λ (z : Query). setWords (blankingSets z)) same ∙ sets-all in
         let u = tallies-all k (ap (λ (z : Query). z .conditions) same) in
-        λ i. record {
-          tables = t i;
-          sets = b i;
-          conditions = u .0 i;
-          holds = map (λ (t : Tally). t .holds) (u .1 i);
-          fails = map (λ (t : Tally). t .fails) (u .1 i);
-          unknown = map (λ (t : Tally). t .unknown) (u .1 i);
-        }
+        λ i. factsWith (t i) (b i) (u .0 i) (u .1 i)
 
     -- the plan run
     ran-gives : (w w′ : List ℕ) {x : Concluded} (facts : Facts) (counts : List ℕ) (j : Joined) → facts ≡ factsOf (reportAnswer r) → length counts ≡ areas

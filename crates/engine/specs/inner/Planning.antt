@@ -1,6 +1,6 @@
 -- What the inner functions of the report hand over: a refusal, or an answer with its plan and the counts of rows of its pairs; and a call
 -- by its parts. Assumes nothing.
-use mathlib.Core.List.{[], List, map}
+use mathlib.Core.List.{[], List}
 use Prim.Native.Nat.{ℕ, zero, suc, _-_}
 use lib.IntN.{ℤ}
 use lib.ListN.{getD}
@@ -9,7 +9,6 @@ use Rattle.vocabulary.specs.Facts.{noFacts}
 use Rattle.vocabulary.specs.declared.query.StoredQuery.{StoredQuery}
 use Rattle.vocabulary.specs.declared.step.Step.{Step}
 use Rattle.vocabulary.specs.declared.facts.Facts.{Facts}
-use Rattle.vocabulary.specs.declared.facts.Tally.{Tally}
 use Rattle.plan.specs.inner.StepWords.{listed, withRows}
 use Rattle.plan.specs.declared.steps.Plan.{Plan}
 use Rattle.counts.specs.inner.Columns.{rowCounts, talliesIn}
@@ -18,7 +17,7 @@ use Rattle.joins.specs.declared.join.Joined.the-variants as J
 use Rattle.engine.specs.declared.answer.Answer.the-variants.{Refused, Rows}
 use Rattle.engine.specs.declared.planned.Concluded.{Concluded}
 use Rattle.engine.specs.declared.planned.Reply.{Reply}
-use Rattle.engine.specs.Calls.{Lent, ReportCall}
+use Rattle.engine.specs.Calls.{Lent, ReportCall, factsWith}
 
 -- a refusal, as it is answered beside a lent list
 unfoldable pub refusedReply : ℕ → Reply
@@ -40,15 +39,8 @@ withCounts s counts (suc k) = withRows (withCounts s counts k) k (getD counts k 
 -- what stands beside the rows of a query: its sets, and the counts of its conditions over the cells of the cell buffer, c
 unfoldable pub factsIn : StoredQuery → List ℕ → List ℤ → Facts
 factsIn q sets c =
-    let ts = talliesIn (rowCounts (q .layout)) (cellsIn c (q .layout)) (q .conditions) (q .«condition_count») in
-    record {
-      tables = q .«table_count»;
-      sets = sets;
-      conditions = q .«condition_count»;
-      holds = map (λ (t : Tally). t .holds) ts;
-      fails = map (λ (t : Tally). t .fails) ts;
-      unknown = map (λ (t : Tally). t .unknown) ts;
-    }
+    factsWith (q .«table_count») sets (q .«condition_count»)
+    (talliesIn (rowCounts (q .layout)) (cellsIn c (q .layout)) (q .conditions) (q .«condition_count»))
 
 -- what is handed over after the run of a plan, s: how many rows there are, what stands beside them, and the plan with the counts of its
 -- pairs; or refusal 11
