@@ -5,7 +5,7 @@
 
 The same seed and count give the same texts. About half of the texts are whole;
 the others are whole texts with one to three faults. Whole texts are answered
-or get 7, 8 or 11; the faults bring in 2 to 9.
+or get 11; the faults bring in 2 to 7 and 9.
 """
 import os
 import random
@@ -51,7 +51,9 @@ def tree(rng, n, flat):
 
 
 def whole(rng, size=None):
-    """A text with every count right. Its tree is mostly a simplified one."""
+    """A text with every count right. Conditions name any table under their join; one text
+    of five is made so that its tree is simplified: no join names a table right of an outer
+    join that lies in a side which the join blanks."""
     text = Text()
     n = size or rng.choice([1, 2, 2, 2, 3, 3, 3, 3, 3, 4, 4, 4, 4, 5, 5, 6])
     most = rng.choice([1, 2, 3, 3, 4, 4]) if n < 5 else rng.choice([1, 2, 2, 3])
@@ -67,7 +69,7 @@ def whole(rng, size=None):
         for _ in range(rows):
             text.add("D", *(value(rng, highest, blanks) for _ in range(columns[-1])))
 
-    careful = rng.random() < 0.9
+    simplified = rng.random() < 0.2
     outer_share = rng.choice([0.3, 0.6, 0.6, 0.9])
     loose = rng.choice([0, 0.3, 0.6])           # how many conditions beside the first
     under = [{t} for t in range(n)]
@@ -76,7 +78,7 @@ def whole(rng, size=None):
         kind = "L" if rng.random() < outer_share else "I"
         text.add("J", kind, left, right)
         lefts, rights = under[left], under[right]
-        if careful:
+        if simplified:
             rights = rights - weak[right]
             lefts = lefts - weak[left] if kind == "I" else lefts
         own = [condition(rng, columns, rng.choice(sorted(lefts)), rng.choice(sorted(rights)))]
@@ -196,7 +198,8 @@ def condition_changed(rng, text):
 
 
 def tables_renamed(rng, text):
-    """Two tables change places in all conditions: trees that are not simplified."""
+    """Two tables change places in all C lines: one that is not under its join, a join
+    without a C line between its sides, or another whole text."""
     a, b = (str(rng.randrange(4)) for _ in range(2))
     for i in text.starting("C"):
         line = text.lines[i]

@@ -137,9 +137,11 @@ class Check:
         if plan_rows != rows:
             self.difference(who + ", the rows of the plan", text, SQL=plan_rows, printed=out)
 
-    def random_report(self, text, n, rng, orders):
+    def random_report(self, text, n, simplified, rng, orders):
         self.count["random reports"] += 1
         self.count["random reports of %d tables" % n] += 1
+        if not simplified:
+            self.count["random reports that are not simplified"] += 1
         rows, most, tallies = self.sql(text)
         if rows:
             self.count["random reports with rows"] += 1
@@ -157,8 +159,8 @@ class Check:
         for program in ("report", "direct"):
             with open(path[:-len("in")] + program, "rb") as file:
                 stored[program] = file.read()
-        if turned_down(stored["direct"]) in range(2, 9):
-            self.count["files turned down by questions 2 to 8"] += 1
+        if turned_down(stored["direct"]) in range(2, 8):
+            self.count["files turned down by questions 2 to 7"] += 1
             return
         self.count["files"] += 1
         rows, most, tallies = self.sql(text)
@@ -210,11 +212,11 @@ def main(name, about, system, ask, count, run_plan=None):
     for folder in ("trials", "samples"):
         for path_in in sorted(glob.glob(os.path.join(top, folder, "*.in"))):
             check.file(path_in, rng, given.orders)
-    for text, n in reports.texts(given.seed, count if given.count is None else given.count):
+    for text, n, simplified in reports.texts(given.seed, count if given.count is None else given.count):
         if given.count is None and time.monotonic() - start > SECONDS:
             print("stopped after %d seconds; %d random reports were asked for" % (SECONDS, count))
             break
-        check.random_report(text, n, rng, given.orders)
+        check.random_report(text, n, simplified, rng, given.orders)
     print("%s, seed %d" % (system, given.seed))
     for counted in sorted(check.count):
         if counted != "differences":

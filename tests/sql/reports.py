@@ -1,8 +1,9 @@
-"""Random reports that questions 2 to 8 do not turn down, by how they are made.
+"""Random reports that questions 2 to 7 do not turn down, by how they are made.
 
 One to eight tables, some of them empty, blanks in the cells, all operators,
 C lines between the sides, C lines with both tables on one side, K lines, lines
-that stand twice. The same seed gives the same texts.
+that stand twice. Conditions name any table under their join; one report of five
+is made so that its tree is simplified. The same seed gives the same texts.
 """
 import random
 
@@ -61,12 +62,15 @@ def tables(rng, n):
 
 
 def report(rng):
-    """The lines of one report, without P lines, and its count of tables."""
+    """The lines of one report, without P lines, its count of tables, and whether its tree
+    is simplified: no join names a table right of an outer join in a side that it blanks."""
     n = rng.choice([1, 2, 2, 2, 3, 3, 3, 3, 4, 4, 4, 4, 5, 5, 5, 6, 6, 7, 7, 8])
     lines, columns, value = tables(rng, n)
     outer = rng.choice([0.2, 0.6, 0.6, 0.9])        # the share of outer joins
     more = rng.choice([0, 0.3, 0.6])                # how many conditions beside the first
     equal = rng.choice([2, 6, 30])                  # how much = is favoured
+    careful = rng.random() < 0.2                    # the tree must be simplified
+    simplified = True
     left_conditions = 32
     under = [{t} for t in range(n)]
     right_of_outer = [set() for _ in range(n)]      # per node: the tables right of an outer join in it
@@ -79,10 +83,11 @@ def report(rng):
 
     for i, (left, right) in enumerate(order(rng, n)):
         kind = "L" if rng.random() < outer else "I"
-        # Question 8: a side that the join drops or blanks is named only in tables
-        # that lie right of no outer join in it.
-        lefts = under[left] - (right_of_outer[left] if kind == "I" else set())
-        rights = under[right] - right_of_outer[right]
+        lefts, rights = under[left], under[right]
+        # the tables right of an outer join in a side that this join blanks
+        weak = right_of_outer[right] | (right_of_outer[left] if kind == "I" else set())
+        if careful:
+            lefts, rights = lefts - weak, rights - weak
         between = [rng.choice(sorted(lefts)), rng.choice(sorted(rights))]
         rng.shuffle(between)
         own = [["C"] + side(between[0]) + [operator()] + side(between[1])]
@@ -97,18 +102,20 @@ def report(rng):
             else:
                 own.append(["C"] + side(a) + [operator()] + side(b))
             left_conditions -= 1
+        named = {line[1] for line in own} | {line[4] for line in own if line[0] == "C"}
+        simplified = simplified and not named & weak
         rng.shuffle(own)
         lines.append(["J", kind, left, right])
         lines += own
         under.append(under[left] | under[right])
         right_of_outer.append(right_of_outer[left] | right_of_outer[right]
                               | (under[right] if kind == "L" else set()))
-    return lines, n
+    return lines, n, simplified
 
 
 def texts(seed, count):
-    """Pairs of a text without P lines and its count of tables."""
+    """Texts without P lines, each with its count of tables and whether its tree is simplified."""
     rng = random.Random(seed)
     for _ in range(count):
-        lines, n = report(rng)
-        yield text_of(lines), n
+        lines, n, simplified = report(rng)
+        yield text_of(lines), n, simplified

@@ -4,7 +4,7 @@
     translate.py < text             the tables and one SELECT, for any SQL system
     translate.py --steps < text     the same, one table for each join
 
-It is meant for texts that questions 2 to 8 do not turn down and asks none of
+It is meant for texts that questions 2 to 7 do not turn down and asks none of
 them. The SQL is plain: SQLite and PostgreSQL both take it.
 
 Table 1 becomes the SQL table t1. Its column t1_row holds the row numbers, its

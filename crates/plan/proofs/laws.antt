@@ -2,6 +2,7 @@
 pub mod BlankingListLaws
 pub mod BuiltLaws
 pub mod FoldWords
+pub mod FormerLaws
 pub mod JoinLaws
 pub mod NodeWords
 pub mod PairWordLaws

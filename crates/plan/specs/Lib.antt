@@ -1,4 +1,5 @@
 pub mod BlankingLists
+pub mod Former
 pub mod Plan
 pub mod Questions
 pub mod Sets

@@ -1,4 +1,5 @@
--- Questions 5 to 10, put to the query: document 01, "Questions, in order". Specification 9.7, 9.8, 9.9, 9.10, 9.11, 9.12. Assumes nothing.
+-- Questions 5 to 10, put to the query: document 01, "Questions, in order". There is no question 8 since document 02, item 2.
+-- Specification 9.7, 9.8, 9.9, 9.10, 9.11, 9.12. Assumes nothing.
 use mathlib.Core.Bool.{Bool, true, _&&_, not}
 use mathlib.Core.List.{List, [], _∷_, _++_}
 use Prim.Native.Nat.{ℕ}
@@ -9,12 +10,9 @@ use Rattle.cells.specs.declared.condition.Condition.{Condition}
 use Rattle.cells.specs.declared.condition.Side.{Side}
 use Rattle.cells.specs.declared.condition.Side.the-variants.{Column, Constant}
 use Rattle.rows.specs.Lists.{has, all, any}
-use Rattle.rows.specs.Trees.{Tree, leaf, join, tablesUnder}
-use Rattle.rows.specs.declared.kind.Kind.the-variants.{Inner, Outer, Product}
-use Rattle.vocabulary.specs.Report.{Query, tableCount, joinPairs, Pair, Join, conditionAt, namedBy}
-use Rattle.vocabulary.specs.Nodes.{wellBuilt, tablesAt, joinNodes, treeAt, joinTrees}
+use Rattle.vocabulary.specs.Report.{Query, tableCount, joinPairs, Pair, Join, conditionAt}
+use Rattle.vocabulary.specs.Nodes.{wellBuilt, tablesAt, joinNodes}
 use Rattle.vocabulary.specs.Asking.{Question}
-use Rattle.plan.specs.Sets.{blanksLeft, blanksRight}
 use Rattle.plan.specs.Plan.{crosses, Ground, pairFits, groundOf}
 
 -- ---- 5 and 9: how the joins and the order are built
@@ -64,28 +62,6 @@ question7 q =
     (λ k. crosses (conditionAt q k) (tablesAt (joinNodes q) (j .left)) (tablesAt (joinNodes q) (j .right))) (j .conditions))
     (q .joins)
 
--- ---- 8: simplified
-
--- the tables of the right sides of a tree's outer joins. Specification 9.10
-unfoldable pub rightSides : Tree ℕ → List ℕ
-rightSides (leaf t) = []
-rightSides (join Inner C A B) = rightSides A ++ rightSides B
-rightSides (join Outer C A B) = rightSides A ++ tablesUnder B
-rightSides (join Product C A B) = rightSides A ++ rightSides B
-
--- whether one of these conditions names a table of the right side of an outer join at or below a node. Specification 9.10
-unfoldable pub namesRightSide : Query → List ℕ → ℕ → Bool
-namesRightSide q C i = any (has (rightSides (treeAt (joinTrees q) i))) (namedBy q C)
-
--- 8: "Is the tree simplified: for no outer join does a join above name a table of its right side while blanking the side it lies
--- in (either side of I, the right of L)?" Specification 9.10
-unfoldable pub question8 : Query → Bool
-question8 q =
-    all
-    (λ (j : Join). not (blanksLeft (j .kind) && namesRightSide q (j .conditions) (j .left))
-    && not (blanksRight (j .kind) && namesRightSide q (j .conditions) (j .right)))
-    (q .joins)
-
 -- ---- 10: the kinds of the pairs
 
 -- whether the usable conditions of every pair fit one of the four kinds. Specification 9.12
@@ -104,7 +80,6 @@ queryQuestions =
     (5, λ (q : Query). question5 q)
     ∷ (6, λ (q : Query). question6 q)
     ∷ (7, λ (q : Query). question7 q)
-    ∷ (8, λ (q : Query). question8 q)
     ∷ []
 
 -- what the order is asked: "The direct reading skips 9 and 10". Specification 9.2, 9.11, 9.12

@@ -1,5 +1,5 @@
--- Blanking sets: document 01, "Blanking sets". A set is a list of condition numbers, rising. Specification 6.1, 6.2, 6.3, 6.4. Assumes
--- nothing.
+-- Blanking sets: document 01, "Blanking sets", with the rule of document 02, item 2. A set is a list of condition numbers, rising.
+-- Specification 6.1, 6.2, 6.3, 6.4. Assumes nothing.
 use mathlib.Core.Bool.{Bool, true, false, _&&_, _||_}
 use mathlib.Core.List.{List, [], map, _∷_}
 use Prim.Native.Nat.{ℕ}
@@ -31,18 +31,19 @@ blanksRight Inner = true
 blanksRight Outer = true
 blanksRight Product = false
 
--- a set with what its table takes at a join: "the join's conditions and the sets of all .. tables [of the other side] that these name"
--- Specification 6.2, 6.3, 6.4
-unfoldable pub taken : Query → List ℕ → Sets → List ℕ → List ℕ → List ℕ
-taken q C S other own =
-    keep (λ k. has own k || has C k || any (λ u. has other u && has (setOf S u) k) (namedBy q C)) (conditionNumbers q)
+-- a set with what its table takes at a join: "the join's conditions and the sets of all .. tables that these name" (document 01), of the
+-- tables "named, on both sides" (document 02, item 2). Specification 6.2, 6.3, 6.4
+unfoldable pub taken : Query → List ℕ → Sets → List ℕ → List ℕ
+taken q C S own = keep (λ k. has own k || has C k || any (λ u. has (setOf S u) k) (namedBy q C)) (conditionNumbers q)
 
--- a table's set after a join of two nodes, given the sets before it. Specification 6.2, 6.3
+-- whether a table is one of a side that a join of two nodes blanks. Specification 6.2, 6.3
+unfoldable pub isBlanked : List ℕ → List ℕ → Join → ℕ → Bool
+isBlanked left right j t = blanksLeft (j .kind) && has left t || blanksRight (j .kind) && has right t
+
+-- a table's set after a join of two nodes, given the sets before it: a table of a side that the join blanks takes, another does not
+-- Specification 6.2, 6.3
 unfoldable pub setAfter : Query → List ℕ → List ℕ → Join → Sets → ℕ → List ℕ
-setAfter q left right j S t =
-    if blanksLeft (j .kind) && has left t then taken q (j .conditions) S right (setOf S t)
-    else if blanksRight (j .kind) && has right t then taken q (j .conditions) S left (setOf S t)
-    else setOf S t
+setAfter q left right j S t = if isBlanked left right j t then taken q (j .conditions) S (setOf S t) else setOf S t
 
 -- the sets after one join. Specification 6.4
 unfoldable pub setsAfter : Query → List (List ℕ) → Join → Sets → Sets

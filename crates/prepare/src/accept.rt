@@ -1,8 +1,7 @@
-// A text through questions 2 to 8, in order: the first that is answered no, or the query and the cells.
+// A text through questions 2 to 7, in order: the first that is answered no, or the query and the cells.
 use questions::built;
 use questions::conditions;
 use questions::crossing;
-use questions::simplified;
 use reader::read;
 use vocabulary::query::StoredQuery;
 ghost use Prim.Native.Nat.{_≤_};
@@ -21,7 +20,7 @@ pub struct AcceptAnswer {
     pub query: StoredQuery,
 }
 
-// Questions 5 to 8.
+// Questions 5 to 7.
 fn ask(q: StoredQuery) -> AcceptOutcome
     requires { ⌜ q .«table_count» ≤ mostTables ⌝ }
     ensures { λ r. ⌜ Asked q r ⌝ }
@@ -35,13 +34,10 @@ fn ask(q: StoredQuery) -> AcceptOutcome
     if !crossing::joins_cross(q) {
         return AcceptOutcome::Refused(7);
     }
-    if !simplified::is_simplified(q) {
-        return AcceptOutcome::Refused(8);
-    }
     AcceptOutcome::Accepted
 }
 
-// Questions 2 to 8 of a text. The cell buffer begins with the text's cells where the text passes questions 2 to 4.
+// Questions 2 to 7 of a text. The cell buffer begins with the text's cells where the text passes questions 2 to 4.
 pub fn accept(text: &[u8], cells: &mut [i32]) -> AcceptAnswer
     ensures { λ r. ⌜ Accepts (now (text .entry)) (now (cells .entry)) (now (cells .exit)) r ⌝ }
 {

@@ -3,5 +3,4 @@ pub mod BuiltQuestions
 pub mod BuiltWordLaws
 pub mod ConditionWordLaws
 pub mod Kept
-pub mod TreeWordLaws
 pub mod Whole

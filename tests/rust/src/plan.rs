@@ -1,4 +1,4 @@
-//! The join tree, the blanking sets and the plan: questions 5 to 10.
+//! The join tree, the blanking sets and the plan: questions 5 to 7, 9 and 10.
 
 use crate::text::{Condition, Operand, Query};
 use crate::{BEST_MATCH, BLANKING, CONDITIONS, INNER, OUTER, PRODUCT, STEPS, Step, TABLES, bits};
@@ -26,7 +26,7 @@ impl Condition {
 }
 
 impl Query {
-    /// The tree of the J lines: questions 5 to 8.
+    /// The tree of the J lines: questions 5 to 7.
     pub fn join_tree(&self) -> Result<Tree, u8> {
         let joins = self.joins.as_slice();
         let tree = self.tree(self.joins.len(), joins.iter().map(|join| join.sides)).ok_or(5)?;
@@ -37,10 +37,7 @@ impl Query {
             let (left, right) = tree.sides(join.sides);
             bits(join.conditions).any(|c| self.condition(c).links(left, right))
         });
-        if !linked {
-            return Err(7);
-        }
-        if self.simplified(&tree) { Ok(tree) } else { Err(8) }
+        if linked { Ok(tree) } else { Err(7) }
     }
 
     /// The tree of the P lines, or of the J lines where there are none: question 9.
@@ -94,22 +91,6 @@ impl Query {
             })
     }
 
-    /// Question 8: no join names a table that an outer join under a side it blanks may have made blank.
-    fn simplified(&self, tree: &Tree) -> bool {
-        let tables = self.tables.len();
-        // For each node the tables in the right side of an outer join at or under it.
-        let mut nullable = [0u8; 2 * TABLES - 1];
-        for (node, join) in (tables..).zip(self.joins.as_slice()) {
-            let (left, right) = (join.sides.0 as usize, join.sides.1 as usize);
-            let forbidden = if join.outer { nullable[right] } else { nullable[left] | nullable[right] };
-            if self.named(join.conditions) & forbidden != 0 {
-                return false;
-            }
-            nullable[node] = nullable[left] | if join.outer { tree.under[right] } else { nullable[right] };
-        }
-        true
-    }
-
     pub fn blanking_sets(&self, tree: &Tree) -> [u64; TABLES] {
         let mut sets = [0; TABLES];
         for join in self.joins.as_slice() {
@@ -118,13 +99,12 @@ impl Query {
         sets
     }
 
-    /// The set rule at one join of a left and a right side.
+    /// The set rule at one join of a left and a right side: what it blanks takes the conditions and the sets of all
+    /// tables that these name.
     fn extend_sets(&self, sets: &mut [u64; TABLES], outer: bool, conditions: u64, (left, right): (u8, u8)) {
-        let named = self.named(conditions);
-        let gain = |from: u8| bits(named & from).fold(conditions, |gain, table| gain | sets[table]);
-        let (of_right, of_left) = (gain(left), if outer { 0 } else { gain(right) });
-        bits(right).for_each(|table| sets[table] |= of_right);
-        bits(left).for_each(|table| sets[table] |= of_left);
+        let gain = bits(self.named(conditions)).fold(conditions, |gain, table| gain | sets[table]);
+        let blanked = if outer { right } else { left | right };
+        bits(blanked).for_each(|table| sets[table] |= gain);
     }
 
     /// Writes the plan, its row counts still 0, and gives its length: question 10.

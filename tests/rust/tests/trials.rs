@@ -1,5 +1,5 @@
-//! The trials of document 01 and of document 02's item 1, worked out by hand. In these texts a bar stands for a tab and
-//! a space ends a line.
+//! The trials of document 01 and of document 02's items 1 and 2, worked out by hand. In these texts a bar stands for a
+//! tab and a space ends a line.
 
 use hashjoin::lent::{LEAST, Lent, MARK};
 use hashjoin::{NO_ROW, Step, Tally, print_direct, print_report};
@@ -123,14 +123,69 @@ fn the_lowest_cell() {
 }
 
 #[test]
-fn a_tree_that_is_not_simplified() {
+fn a_tree_that_is_simplified() {
     let tables = "T|1 D|1 T|1 D|1 T|1 D|1";
-    refused(&[tables, "J|L|0|1 C|0|0|=|1|0 J|I|3|2 C|1|0|=|2|0"].join(" "), 8);
     prints(
         &[tables, "J|L|0|1 C|0|0|=|1|0 J|I|3|2 C|0|0|=|2|0"].join(" "),
         "S|0|1 S|1|0|1 S|2|1 U|0|1|0|0 U|1|1|0|0 M|L|0|1|1|0 M|I|3|2|1|1 R|0|0|0",
         "R|0|0|0",
     );
+    // The last outer join blanks its right side alone: it gives the left side nothing.
+    prints(
+        "T|1 D|1 D|2 T|1 D|1 T|1 D|1 J|L|0|1 C|0|0|=|1|0 J|L|3|2 C|1|0|=|2|0",
+        "S|0 S|1|0 S|2|0|1 U|0|1|1|0 U|1|1|0|0 M|L|0|1|2|0 M|L|3|2|2|1 R|0|0|0 R|1|-|-",
+        "R|0|0|0 R|1|-|-",
+    );
+}
+
+#[test]
+fn a_tree_that_is_not_simplified() {
+    let sets = "S|0|0|1 S|1|0|1 S|2|0|1";
+    let joins = "J|L|0|1 C|0|0|=|1|0 J|I|3|2 C|1|0|=|2|0";
+    prints(
+        &["T|1 D|1 T|1 D|1 T|1 D|1", joins].join(" "),
+        &[sets, "U|0|1|0|0 U|1|1|0|0 M|I|0|1|1|0 M|I|3|2|1|1 R|0|0|0"].join(" "),
+        "R|0|0|0",
+    );
+    // The second row of table 0 is kept by the first join and dropped by the second.
+    let tables = "T|1 D|1 D|2 T|1 D|1 T|1 D|1 D|3";
+    for (order, steps) in [
+        ("", "M|I|0|1|1|0 M|I|3|2|1|1"),
+        ("P|1|2 P|3|0", "M|I|1|2|1|1 M|I|3|0|1|0"),
+        ("P|0|2 P|3|1", "M|O|0|2|4 M|I|3|1|1|0|1"),
+    ] {
+        let print = [sets, "U|0|1|1|0 U|1|1|1|0", steps, "R|0|0|0"].join(" ");
+        prints(&[tables, joins, order].join(" "), &print, "R|0|0|0");
+    }
+}
+
+/// What a join above names counts, whatever the line that names it: a K line, or a C line with both tables on one side.
+#[test]
+fn tables_named_by_other_lines() {
+    prints(
+        "T|1 D|2 T|1 D|1 D|2 T|1 D|2 J|L|0|1 C|0|0|=|1|0 J|L|2|3 C|2|0|=|0|0 K|1|0|=|1 P|2|1 P|3|0",
+        "S|0|0|1|2 S|1|0|1|2 S|2 U|0|1|1|0 U|1|1|0|0 U|2|1|1|0 M|O|2|1|2 M|L|3|0|2|0|1 B|0|2 B|1|0|1|2 Z R|-|-|0",
+        "R|-|-|0",
+    );
+    prints(
+        "T|1 D|2 T|1 D|1 T|1 D|2 J|L|2|1 C|2|0|=|1|0 J|L|0|3 C|0|0|=|2|0 C|1|0|<>|2|0 P|1|0 P|3|2",
+        "S|0 S|1|0|1|2 S|2|0|1|2 U|0|0|1|0 U|1|1|0|0 U|2|1|0|0 M|O|1|0|1 M|L|3|2|1|0|1|2 B|1|0|1|2 Z R|0|-|-",
+        "R|0|-|-",
+    );
+}
+
+/// A pair hands on the sets of named tables of the same side too, so that no blanking step is left.
+#[test]
+fn applied_sets() {
+    let tables = "T|1 D|1 T|1 D|1 T|1 D|1 T|1 D|1";
+    let joins = "J|I|0|1 C|0|0|=|1|0 J|I|4|2 C|1|0|<=|2|0 J|I|5|3 C|2|0|>=|3|0";
+    let before = "S|0|0|1|2 S|1|0|1|2 S|2|0|1|2 S|3|0|1|2 U|0|1|0|0 U|1|1|0|0 U|2|1|0|0";
+    for (order, steps) in [
+        ("P|0|1 P|4|3 P|5|2", "M|I|0|1|1|0 M|O|4|3|1 M|I|5|2|1|1|2"),
+        ("P|2|3 P|0|4 P|1|5", "M|I|2|3|1|2 M|O|0|4|1 M|I|1|5|1|0|1"),
+    ] {
+        prints(&[tables, joins, order].join(" "), &[before, steps, "R|0|0|0|0"].join(" "), "R|0|0|0|0");
+    }
 }
 
 #[test]

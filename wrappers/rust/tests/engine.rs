@@ -127,8 +127,8 @@ fn refusals() {
 
 #[test]
 fn a_refusal_as_an_error() {
-    let error: Box<dyn std::error::Error> = Box::new(Refused { question: 8 });
-    assert_eq!(error.to_string(), "the report was turned down by question 8");
+    let error: Box<dyn std::error::Error> = Box::new(Refused { question: 7 });
+    assert_eq!(error.to_string(), "the report was turned down by question 7");
 }
 
 /// The prints of the texts of trials/ and samples/ are the stored ones, and so are those put together from the values.

@@ -1,5 +1,6 @@
--- Demand 3 is not empty: document 01's report with its order changed and a list of steps that is not the engine's own, computed. And why
--- question 8 stands among the assumptions: a report that it turns down whose two runs differ. Assumes nothing.
+-- Demand 3 is not empty: document 01's report with its order changed and a list of steps that is not the engine's own, computed; and a
+-- report that document 01's question 8 turned down, which document 02, item 2, answers; and one that it passed and that loses a blanking step.
+-- Assumes nothing.
 use mathlib.Core.Path.{_≡_, refl}
 use mathlib.Core.List.{List, [], _∷_}
 use mathlib.Core.Option.{none, some}
@@ -13,11 +14,14 @@ use Rattle.text.specs.Reading.{textLines, reportOf}
 use Rattle.text.specs.QueryLines.{isOrder, queryLines}
 use Rattle.plan.specs.Questions.{orderQuestions}
 use Rattle.plan.specs.Plan.{groundOf, blankings}
+use Rattle.plan.specs.Former.{formerGround, formerBlankings}
 use Rattle.plan.specs.BlankingLists.{BlankingList}
 use Rattle.plan.proofs.laws.BlankingListLaws.{isBlankingList, blanking-list}
 use Rattle.prepare.specs.Asking.{sharedQuestions}
 use Rattle.executor.specs.Runs.{directRows, runRows, reportRows}
-use Rattle.engine.proofs.laws.Computing.{computing}
+use Rattle.engine.specs.Answers.{refused}
+use Rattle.engine.specs.Former.{formerRows, formerOutcome}
+use Rattle.engine.proofs.laws.Computing.{computing, formerly}
 use Rattle.engine.specs.Trials.{text, notation}
 use Rattle.engine.specs.Demand3.{SameQuery}
 use Rattle.engine.proofs.Demand3.{demand-3}
@@ -69,26 +73,51 @@ direct-computed : directRows (reportOf (linesIn givenText)) ≡ (0 ∷ 0 ∷ 0 �
 unfolding computing givenText linesIn text notation
 direct-computed = refl
 
--- ---- why question 8 is asked
+-- ---- an outer join whose right side a join above it names
 
--- 2 L (0 L 1), where the upper join names table 1, which is in the right side of the lower one
-unfoldable pub unsimplified : Bytes
-unsimplified = text "T|1 D|1 T|1 D|2 T|1 D|2 J|L|0|1 C|0|0|=|1|0 J|L|2|3 C|2|0|=|1|0 P|2|1 P|0|3"
+-- 2 L (0 L 1), where the upper join names table 1, which is in the right side of the lower one; the order begins with 2 and 1
+unfoldable pub undone : Bytes
+undone = text "T|1 D|1 T|1 D|2 T|1 D|2 J|L|0|1 C|0|0|=|1|0 J|L|2|3 C|2|0|=|1|0 P|2|1 P|0|3"
 
--- question 8 turns it down, and 9 and 10 would not
-turned-down : firstNo sharedQuestions (reportOf (linesIn unsimplified)) ≡ some 8
-unfolding computing unsimplified linesIn text notation
-turned-down = refl
+-- no question turns it down
+undone-accepted : firstNo sharedQuestions (reportOf (linesIn undone)) ≡ none
+unfolding computing undone linesIn text notation
+undone-accepted = refl
 
-order-admitted : firstNo orderQuestions (queryOf (reportOf (linesIn unsimplified))) ≡ none
-unfolding computing unsimplified linesIn text notation
-order-admitted = refl
+undone-admitted : firstNo orderQuestions (queryOf (reportOf (linesIn undone))) ≡ none
+unfolding computing undone linesIn text notation
+undone-admitted = refl
 
--- the tree read directly has the row - - 0, the plan's run would have 0 - 0
-unsimplified-direct : directRows (reportOf (linesIn unsimplified)) ≡ (65535 ∷ 65535 ∷ 0 ∷ []) ∷ []
-unfolding computing unsimplified linesIn text notation
-unsimplified-direct = refl
+-- both runs have the row - - 0
+undone-direct : directRows (reportOf (linesIn undone)) ≡ (65535 ∷ 65535 ∷ 0 ∷ []) ∷ []
+unfolding computing undone linesIn text notation
+undone-direct = refl
 
-unsimplified-run : reportRows (reportOf (linesIn unsimplified)) ≡ (0 ∷ 65535 ∷ 0 ∷ []) ∷ []
-unfolding computing unsimplified linesIn text notation
-unsimplified-run = refl
+undone-run : reportRows (reportOf (linesIn undone)) ≡ (65535 ∷ 65535 ∷ 0 ∷ []) ∷ []
+unfolding computing undone linesIn text notation
+undone-run = refl
+
+-- with document 01's sets the plan's run would have 0 - 0: its question 8 turned the report down
+undone-formerly : formerRows (reportOf (linesIn undone)) ≡ (0 ∷ 65535 ∷ 0 ∷ []) ∷ []
+unfolding computing formerly undone linesIn text notation
+undone-formerly = refl
+
+undone-refused : formerOutcome undone ≡ refused 8
+unfolding computing formerly undone text notation
+undone-refused = refl
+
+-- ---- a report that question 8 passed and whose blanking step goes
+
+-- ((0 I 1) I 2) I 3, where the order joins 3 before 2
+unfoldable pub chained : Bytes
+chained = text "T|1 D|1 T|1 D|1 T|1 D|1 T|1 D|1 J|I|0|1 C|0|0|=|1|0 J|I|4|2 C|1|0|<=|2|0 J|I|5|3 C|2|0|>=|3|0 P|0|1 P|4|3 P|5|2"
+
+-- by document 01's rule table 3 had a blanking step, B|3|0
+chained-formerly : formerBlankings (formerGround (queryOf (reportOf (linesIn chained)))) ≡ (3, 0 ∷ []) ∷ []
+unfolding computing formerly chained linesIn text notation
+chained-formerly = refl
+
+-- now there is none
+chained-now : blankings (groundOf (queryOf (reportOf (linesIn chained)))) ≡ []
+unfolding computing chained linesIn text notation
+chained-now = refl

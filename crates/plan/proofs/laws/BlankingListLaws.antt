@@ -8,7 +8,7 @@ use Prim.Native.Nat.{ℕ, _<_}
 use lib.Dec.{T, eqb, ltb}
 use mir.Facts.{and-yes, eqb-yes, ltb-yes}
 use native.Mathlib.Omega.{arith}
-use Rattle.rows.specs.Lists.{_isIn_, all, any, has, range}
+use Rattle.rows.specs.Lists.{_isIn_, all, any, has, keep, range}
 use Rattle.rows.proofs.laws.ListLaws.{all-elim, any-elim, has-elim, range-intro, keep-elim, keep-intro, map-intro, map-elim, range-elim}
 use Rattle.rows.specs.Nullification.{Blanking}
 use Rattle.vocabulary.specs.Report.{tableCount, tableNumbers}
@@ -56,31 +56,30 @@ blanking-list g L h = record {
     each s m = and-yes (ltb (s .0) (tableCount (g .query)) && asks s) (all (has (missing g (s .0))) (s .1))
         (all-elim (λ (s : Blanking ℕ). ltb (s .0) (tableCount (g .query)) && asks s && all (has (missing g (s .0))) (s .1)) L (parts .0) s m)
 
--- ---- the engine's own list
+-- ---- one step for each table that has conditions
 
-module _ (g : Ground) where
-  own-elim : (s : Blanking ℕ) → s isIn blankings g → (s .0 < tableCount (g .query)) × (s .1 ≢ []) × (s .1 ≡ missing g (s .0))
-  unfolding blankings asks tableNumbers
-  own-elim s m =
-      let (k, h) = keep-elim asks (map (λ t. (t, missing g t)) (range 0 (tableCount (g .query)))) m in
-      let (t, n, e) = map-elim (λ (t : ℕ). (t, missing g t)) (range 0 (tableCount (g .query))) k in
-      let b : t < tableCount (g .query) = (let r = range-elim 0 (tableCount (g .query)) n in omega arith) in
-      subst (λ (z : Blanking ℕ). T (asks z) → (z .0 < tableCount (g .query)) × (z .1 ≢ []) × (z .1 ≡ missing g (z .0))) e
-      (λ w. (b, asks-some (t, missing g t) w, refl)) h
+module _ (f : ℕ → List ℕ) (n : ℕ) where
+  pub steps-elim : (s : Blanking ℕ) → s isIn keep asks (map (λ t. (t, f t)) (range 0 n)) → (s .0 < n) × (s .1 ≢ []) × (s .1 ≡ f (s .0))
+  unfolding asks
+  steps-elim s m =
+      let (k, h) = keep-elim asks (map (λ t. (t, f t)) (range 0 n)) m in
+      let (t, l, e) = map-elim (λ (t : ℕ). (t, f t)) (range 0 n) k in
+      let b : t < n = (let r = range-elim 0 n l in omega arith) in
+      subst (λ (z : Blanking ℕ). T (asks z) → (z .0 < n) × (z .1 ≢ []) × (z .1 ≡ f (z .0))) e (λ w. (b, asks-some (t, f t) w, refl)) h
 
-  pub own-list : BlankingList g (blankings g)
-  unfolding blankings asks tableNumbers
-  own-list = record {
-    table = λ s m. own-elim s m .0;
-    some = λ s m. own-elim s m .1;
-    only = λ s m c n. subst (λ (l : List ℕ). c isIn l) (own-elim s m .2) n;
-    every = λ t h c m. (
-      (t, missing g t),
-      keep-intro asks (map-intro (λ (u : ℕ). (u, missing g u)) (range-intro 0 (tableCount (g .query)) t (omega arith) (omega arith))) (some-asked (missing g t) m),
-      refl,
-      m,
-    );
-  }
+  pub steps-intro : (t : ℕ) → t < n → (c : ℕ) → c isIn f t → (t, f t) isIn keep asks (map (λ t. (t, f t)) (range 0 n))
+  unfolding asks
+  steps-intro t h c m = keep-intro asks (map-intro (λ (u : ℕ). (u, f u)) (range-intro 0 n t (omega arith) (omega arith))) (some-asked (f t) m)
     where
       some-asked : (C : List ℕ) {c : ℕ} → c isIn C → T (elim C [ [] ↦ false | k ∷ D ↦ true ])
       some-asked (k ∷ C) m = tt
+
+-- the engine's own list
+pub own-list : (g : Ground) → BlankingList g (blankings g)
+unfolding blankings tableNumbers
+own-list g = record {
+  table = λ s m. steps-elim (missing g) (tableCount (g .query)) s m .0;
+  some = λ s m. steps-elim (missing g) (tableCount (g .query)) s m .1;
+  only = λ s m c n. subst (λ (l : List ℕ). c isIn l) (steps-elim (missing g) (tableCount (g .query)) s m .2) n;
+  every = λ t h c m. ((t, missing g t), steps-intro (missing g) (tableCount (g .query)) t h c m, refl, m);
+}

@@ -21,7 +21,7 @@ use Rattle.vocabulary.proofs.laws.NodeLaws.{Matched, noPair, nextPair, Alike, a
 use Rattle.vocabulary.proofs.laws.WellRead.{Numbered}
 use Rattle.plan.specs.Sets.{setOf, setsBy, emptySets}
 use Rattle.plan.proofs.laws.StageLaws.{Stages, stages, usedBy, OpenApart, every-node, every-node-at, from-last, last-has, sides-lower}
-use Rattle.plan.proofs.laws.SetLaws.{Exact, exact-end}
+use Rattle.plan.proofs.laws.SetLaws.{Inside, Exact, exact-end}
 
 matched-length : {G : Join → Type 0} {ps : List Pair} {js : List Join} → Matched G ps js → length ps ≡ length js
 matched-length noPair = refl
@@ -58,11 +58,11 @@ module _ (q : Query) {G : Join → Type 0} {ps : List Pair} {js : List Join} (ma
   unfolding treeAt
   leaf-at i h = grown-old treeOf leaves js i (leaf 0) (omega (arith, leaf-count)) ∙ getD-range leaf (leaf 0) 0 n i h ∙ ap leaf (omega arith)
 
-  staged : Stages G trees (length trees) (usedBy [] js) n [] js
+  pub staged : Stages G trees (length trees) (usedBy [] js) n [] js
   staged = subst (λ (k : ℕ). Stages G trees (length trees) (usedBy [] js) k [] js) leaf-count
       (stages leaves [] matched (subst (λ (k : ℕ). T (lowerSides k ps)) (sym leaf-count) (parts .1)) (parts .2) (λ s m k. elim k [ ]))
 
-  apart-first : OpenApart trees n []
+  pub apart-first : OpenApart trees n []
   apart-first i k (hi, ni) (hk, nk) d = rw (leaf-at i hi, leaf-at k hk) (λ t e f. d (sym e ∙ f))
 
   -- P of every node, where it holds of each table and a join makes it of its node
@@ -125,25 +125,27 @@ module _ (q : Query) {G : Join → Type 0} {ps : List Pair} {js : List Join} (ma
   last-has-every = last-has n staged one-fewer
       (λ t h. (t, (h, λ k. elim k [ ]), subst (λ (E : Tree ℕ). HasTable E t) (sym (leaf-at t h)) refl))
 
-  -- the sets that the rule gives are what the whole tree has applied
-  pub sets-applied : {D : Database ℕ} (laws : Lawful D) → ((k t : ℕ) → (laws .Names k t ↔ t isIn namesOf (conditionAt q k)))
-      → ((j : Join) → G j → Numbered q j) → (t : ℕ) → t < tableCount q → (k : ℕ)
-      → (k isIn setOf (setsBy q (nodesOf q ps) js (emptySets q)) t ↔ Applied laws (lastTree (treesOf q js)) t k)
-  unfolding lastTree treesOf tableNumbers emptySets setOf
-  sets-applied laws names num t h k =
-      exact-end q laws names (nodesOf q ps) trees (length trees) nodes-alike tables-exist num staged apart-first (emptySets q) first
-      .applied (length trees - 1)
-      (last-lower, λ m. let b = sides-lower staged (λ u z. elim z [ ]) (length trees - 1) m in omega arith)
-      t (last-has-every t h) k
-    where
-      none : (t k : ℕ) → t < tableCount q → ¬ (k isIn setOf (emptySets q) t)
-      none t k b m = elim (subst (λ (l : List ℕ). k isIn l) (getD-range (λ (u : ℕ). []) [] 0 (tableCount q) t b) m) [ ]
+  module _ {D : Database ℕ} (laws : Lawful D) (names : (k t : ℕ) → (laws .Names k t ↔ t isIn namesOf (conditionAt q k))) where
+    -- before the first join no table has a condition in its set
+    pub exact-first : Exact q laws names (nodesOf q ps) (treesOf q js) (length (treesOf q js)) nodes-alike tables-exist (tableCount q) [] (emptySets q)
+    unfolding treesOf tableNumbers emptySets setOf
+    exact-first = record {
+      applied = λ i o u x c. (
+        λ m. absurd (none u c (tables-exist i (omega (arith, node-count, o .0)) u x) m),
+        λ y. elim (subst (λ (E : Tree ℕ). Applied laws E u c) (leaf-at i (o .0)) y) [ ],
+      );
+      numbered = λ u b c m. absurd (none u c b m);
+    }
+      where
+        none : (t k : ℕ) → t < tableCount q → ¬ (k isIn setOf (emptySets q) t)
+        none t k b m = elim (subst (λ (l : List ℕ). k isIn l) (getD-range (λ (u : ℕ). []) [] 0 (tableCount q) t b) m) [ ]
 
-      first : Exact q laws names (nodesOf q ps) trees (length trees) nodes-alike tables-exist n [] (emptySets q)
-      first = record {
-        applied = λ i o u x c. (
-          λ m. absurd (none u c (tables-exist i (omega (arith, node-count, o .0)) u x) m),
-          λ y. elim (subst (λ (E : Tree ℕ). Applied laws E u c) (leaf-at i (o .0)) y) [ ],
-        );
-        numbered = λ u b c m. absurd (none u c b m);
-      }
+    -- the sets that the rule gives are what the whole tree has applied
+    pub sets-applied : ((j : Join) → G j → Numbered q j × Inside q (nodesOf q ps) j) → (t : ℕ) → t < tableCount q → (k : ℕ)
+        → (k isIn setOf (setsBy q (nodesOf q ps) js (emptySets q)) t ↔ Applied laws (lastTree (treesOf q js)) t k)
+    unfolding lastTree treesOf tableNumbers
+    sets-applied num t h k =
+        exact-end q laws names (nodesOf q ps) trees (length trees) nodes-alike tables-exist num staged apart-first (emptySets q) exact-first
+        .applied (length trees - 1)
+        (last-lower, λ m. let b = sides-lower staged (λ u z. elim z [ ]) (length trees - 1) m in omega arith)
+        t (last-has-every t h) k

@@ -33,7 +33,7 @@ use Rattle.plan.specs.declared.order.Order.{Order}
 -- ---- lists
 
 -- the last of the given things makes the last element
-pub grown-last : {A X : Type 0} (f : List A → X → A) (l : List A) (xs : List X) (x : X)
+grown-last : {A X : Type 0} (f : List A → X → A) (l : List A) (xs : List X) (x : X)
     → grown f l (xs ++ (x ∷ [])) ≡ grown f l xs ++ (f (grown f l xs) x ∷ [])
 unfolding grown
 grown-last f l [] x = refl
@@ -104,7 +104,7 @@ module _ (o : Order) (ps : List Pair) (is : OrderIs o ps) where
 -- ---- one node more
 
 -- an element more, and the word of what it stands for
-pub grow-words : {A : Type 0} (g : A → List ℕ) (d : A) (l : List A) (x : A) → length l < mostNodes
+grow-words : {A : Type 0} (g : A → List ℕ) (d : A) (l : List A) (x : A) → length l < mostNodes
     → set (wordsTo (λ i. g (getD l i d)) mostNodes) (length l) (bitsOf (g x)) ≡ wordsTo (λ i. g (getD (l ++ (x ∷ [])) i d)) mostNodes
 unfolding wordsTo
 grow-words {A} g d l x room = ext-getD 0 (set (map old (range 0 mostNodes)) (length l) (bitsOf (g x))) (map new (range 0 mostNodes))

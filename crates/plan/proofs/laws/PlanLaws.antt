@@ -173,7 +173,7 @@ module _ (g : Ground) where
     -- the sets of the pairs are what the plan's tree applies to its tables
     pub plan-applied : (t : ℕ) → t < tableCount (g .query) → (k : ℕ) → (k isIn setOf (pairSets g) t ↔ Applied laws (planTree g) t k)
     unfolding pairSets planTree planTrees orderNodes
-    plan-applied = sets-applied (g .query) plan-matched built laws names (λ j f. f .tied .numbered)
+    plan-applied = sets-applied (g .query) plan-matched built laws names (λ j f. (f .tied .numbered, f .tied .inside))
 
   -- where a set stays as it is after the last pair
   pub close-none : ((C : List ℕ) → g .close C ≡ C) → appliedSets g ≡ pairSets g

@@ -1,30 +1,30 @@
 -- Laws of the set rule over words: a join's step on words is the set rule's step on sets. Assumes nothing.
 use mathlib.Core.Path.{_≡_, refl, ap₂, sym, ap, _∙_, subst}
-use mathlib.Core.Logic.{by-cases, _⊎_, inl, inr, ⊎-elim}
+use mathlib.Core.Logic.{by-cases, _⊎_, inl, inr, ⊎-elim, ⊎-map}
 use mathlib.Core.Bool.{Bool, true, false, _&&_, _||_, and-false}
 use mathlib.Core.List.{_∷_, map, List, []}
 use Prim.Native.Nat.{ℕ, zero, suc, _+_, _<_, _≤_}
 use native.Mathlib.Omega.{arith}
-use lib.Bits.{bitAnd, bitOr, or-zero-r}
+use lib.Bits.{bitOr, or-zero-r}
 use lib.Dec.{ltb, not-T, T}
 use lib.ListN.{getD, List·getD-eq-default, length, length-map}
-use mir.Facts.{ltb-yes, ltb-no, yes-ltb}
+use mir.Facts.{ltb-yes, ltb-no, yes-ltb, or-yes}
 use Rattle.cells.specs.Limits.{mostTables, mostNodes}
 use Rattle.cells.specs.Choice.{if_then_else_}
 use Rattle.cells.proofs.laws.BoolLaws.{same-test}
 use Rattle.cells.specs.Condition.{namesOf}
 use Rattle.rows.specs.Lists.{range, _isIn_, any, has}
-use Rattle.rows.proofs.laws.ListLaws.{decT, if-elim, has-elim, keep-elim, keep-intro, range-intro, range-elim, flatMap-intro, flatMap-elim, length-range}
+use Rattle.rows.proofs.laws.ListLaws.{decT, or-left, or-right, if-elim, has-elim, keep-elim, keep-intro, range-intro, range-elim, flatMap-intro, flatMap-elim, length-range}
 use Rattle.vocabulary.specs.Report.{Query, tableCount, conditionNumbers, Join, tableNumbers, conditionAt, namedBy}
 use Rattle.vocabulary.specs.Nodes.{tablesAt}
 use Rattle.vocabulary.specs.Bits.{wordSize, hasBit}
 use Rattle.vocabulary.specs.Steps.{bitsOf}
 use Rattle.vocabulary.proofs.laws.BitLaws.{has-bits, has-none, bit-elim, bit-intro, word-is}
 use Rattle.vocabulary.specs.inner.Words.{onlyIf, wordTables}
-use Rattle.vocabulary.proofs.laws.WordLaws.{tab-at, tab-length, or-elim, or-intro, and-elim, and-intro, only-elim, only-intro, union-elim, union-intro}
-use Rattle.plan.specs.Sets.{Sets, setOf, blanksLeft, blanksRight, taken, setAfter, setsAfter, emptySets}
+use Rattle.vocabulary.proofs.laws.WordLaws.{tab-at, tab-length, or-elim, or-intro, only-elim, only-intro, union-elim, union-intro}
+use Rattle.plan.specs.Sets.{Sets, setOf, blanksLeft, blanksRight, taken, isBlanked, setAfter, setsAfter, emptySets}
 use Rattle.plan.proofs.laws.SetLaws.{set-after, taken-elim, taken-intro, Gains}
-use Rattle.plan.specs.inner.Words.{wordsTo, setWords, nodeWords, conditionBits, joinBits, gatherBits, gainBits, takenWords, afterWords}
+use Rattle.plan.specs.inner.Words.{wordsTo, setWords, nodeWords, conditionBits, joinBits, gatherBits, takenWords, blankedBits, afterWords}
 use Rattle.plan.proofs.laws.JoinLaws.{condition-elim, condition-intro}
 
 -- two lists made for each of n numbers are equal where their elements are
@@ -36,7 +36,7 @@ tab-same f g s (suc n) e = ap₂ (λ x l. x ∷ l) (e s (omega arith) (omega ari
 -- ---- reading the arrays
 
 -- a word of an array that has all the words that are not 0
-pub words-at : (f : ℕ → List ℕ) (n i : ℕ) → (n ≤ i → f i ≡ []) → getD (wordsTo f n) i 0 ≡ bitsOf (f i)
+words-at : (f : ℕ → List ℕ) (n i : ℕ) → (n ≤ i → f i ≡ []) → getD (wordsTo f n) i 0 ≡ bitsOf (f i)
 unfolding wordsTo bitsOf
 words-at f n i h = by-cases (decT (ltb i n)) (λ l. tab-at (λ (k : ℕ). bitsOf (f k)) n i 0 (ltb-yes l))
     (λ l. let b : n ≤ i = ltb-no (not-T (ltb i n) l) in
@@ -81,18 +81,16 @@ module _ (q : Query) where
   unfolding conditionNumbers
   number-elim k m = let r = range-elim 0 (length (q .conditions)) m in omega arith
 
-  taken-numbered : (C : List ℕ) (S : Sets) (other own : List ℕ) (k : ℕ) → k isIn taken q C S other own → k isIn conditionNumbers q
+  taken-numbered : (C : List ℕ) (S : Sets) (own : List ℕ) (k : ℕ) → k isIn taken q C S own → k isIn conditionNumbers q
   unfolding taken
-  taken-numbered C S other own k m =
-      keep-elim (λ (c : ℕ). has own c || has C c || any (λ u. has other u && has (setOf S u) c) (namedBy q C)) (conditionNumbers q) m .0
+  taken-numbered C S own k m =
+      keep-elim (λ (c : ℕ). has own c || has C c || any (λ u. has (setOf S u) c) (namedBy q C)) (conditionNumbers q) m .0
 
   after-numbered : (left right : List ℕ) (j : Join) (S : Sets) → Proper q S → (t k : ℕ) → k isIn setAfter q left right j S t
       → k isIn conditionNumbers q
   unfolding setAfter
-  after-numbered left right j S p t k m = ⊎-elim (λ (b, x). taken-numbered (j .conditions) S right (setOf S t) k x)
-      (λ (b, x). ⊎-elim (λ (c, y). taken-numbered (j .conditions) S left (setOf S t) k y) (λ (c, y). p .numbered t k y)
-      (if-elim (λ (l : List ℕ). k isIn l) (blanksRight (j .kind) && has right t) x))
-      (if-elim (λ (l : List ℕ). k isIn l) (blanksLeft (j .kind) && has left t) m)
+  after-numbered left right j S p t k m = ⊎-elim (λ (b, x). taken-numbered (j .conditions) S (setOf S t) k x) (λ (b, x). p .numbered t k x)
+      (if-elim (λ (l : List ℕ). k isIn l) (isBlanked left right j t) m)
 
   sets-count : (nodes : List (List ℕ)) (j : Join) (S : Sets) → length (setsAfter q nodes j S) ≡ tableCount q
   unfolding setsAfter tableNumbers
@@ -116,62 +114,55 @@ module _ (q : Query) where
       number : (t k : ℕ) → k isIn setAfter q (tablesAt nodes (j .left)) (tablesAt nodes (j .right)) j S t → k isIn conditionNumbers q
       number t k m = after-numbered (tablesAt nodes (j .left)) (tablesAt nodes (j .right)) j S p t k m
 
-  -- what a table has after it took from the other side
-  module _ (C : List ℕ) (S : Sets) (small : length S ≤ mostTables) (p : Proper q S) (other : List ℕ) (own : List ℕ)
+  -- what a table has after it took
+  module _ (C : List ℕ) (S : Sets) (small : length S ≤ mostTables) (p : Proper q S) (own : List ℕ)
       (fair : (k : ℕ) → k isIn own → k isIn conditionNumbers q) where
     abbrev names : ℕ
     names = bitsOf (wordTables (namedBy q C))
 
-    gather-elim : (k : ℕ) → T (hasBit (gatherBits (setWords S) (bitAnd names (bitsOf other))) k) → (k isIn conditionNumbers q) × Gains q C S other k
+    gather-elim : (k : ℕ) → T (hasBit (gatherBits (setWords S) names) k) → (k isIn conditionNumbers q) × Gains q C S k
     unfolding gatherBits wordTables namedBy
     gather-elim k t =
-        let (u, l, x) = union-elim (λ (t : ℕ). onlyIf (hasBit (bitAnd names (bitsOf other)) t) (getD (setWords S) t 0)) mostTables k t in
-        let (a, b) = only-elim (hasBit (bitAnd names (bitsOf other)) u) (getD (setWords S) u 0) k x in
-        let (n, o) = and-elim names (bitsOf other) u a in
+        let (u, l, x) = union-elim (λ (t : ℕ). onlyIf (hasBit names t) (getD (setWords S) t 0)) mostTables k t in
+        let (n, b) = only-elim (hasBit names u) (getD (setWords S) u 0) k x in
         let (m, r) = keep-elim (λ (t : ℕ). ltb t wordSize) (namedBy q C) (bit-elim (wordTables (namedBy q C)) u n) in
         let (d, e, f) = flatMap-elim (λ (c : ℕ). namesOf (conditionAt q c)) C m in
         let z : k isIn setOf S u = bit-elim (setOf S u) k (subst (λ (w : ℕ). T (hasBit w k)) (set-word S small u) b) in
-        (p .numbered u k z, inr (d, u, e, f, bit-elim other u o, z))
+        (p .numbered u k z, inr (d, u, e, f, z))
 
-    gather-intro : (k d u : ℕ) → d isIn C → u isIn namesOf (conditionAt q d) → u isIn other → k isIn setOf S u
-        → T (hasBit (gatherBits (setWords S) (bitAnd names (bitsOf other))) k)
+    gather-intro : (k d u : ℕ) → d isIn C → u isIn namesOf (conditionAt q d) → k isIn setOf S u → T (hasBit (gatherBits (setWords S) names) k)
     unfolding gatherBits wordTables namedBy
-    gather-intro k d u e f o z =
+    gather-intro k d u e f z =
         let b : u < length S = there-is u z in
-        union-intro (λ (t : ℕ). onlyIf (hasBit (bitAnd names (bitsOf other)) t) (getD (setWords S) t 0)) mostTables k u (omega arith)
-        (only-intro (hasBit (bitAnd names (bitsOf other)) u) (getD (setWords S) u 0) k
-        (and-intro names (bitsOf other) u
+        union-intro (λ (t : ℕ). onlyIf (hasBit names t) (getD (setWords S) t 0)) mostTables k u (omega arith)
+        (only-intro (hasBit names u) (getD (setWords S) u 0) k
         (bit-intro (keep-intro (λ (t : ℕ). ltb t wordSize) (flatMap-intro (λ (c : ℕ). namesOf (conditionAt q c)) e f)
-        (yes-ltb {a = u} {b = wordSize} (omega arith)))) (bit-intro o))
+        (yes-ltb {a = u} {b = wordSize} (omega arith))))
         (subst (λ (w : ℕ). T (hasBit w k)) (sym (set-word S small u)) (bit-intro z)))
       where
         there-is : (u : ℕ) → k isIn setOf S u → u < length S
         there-is u z = by-cases (decT (ltb u (length S))) (λ l. ltb-yes l)
             (λ l. elim (subst (λ (s : List ℕ). k isIn s) (no-set S u (ltb-no (not-T (ltb u (length S)) l))) z) [ ])
 
-    pub taken-word : bitOr (bitsOf own) (bitOr (conditionBits q C) (gatherBits (setWords S) (bitAnd names (bitsOf other)))) ≡ bitsOf
-        (taken q C S other own)
-    taken-word = word-is (bitOr (bitsOf own) (bitOr (conditionBits q C) gather)) (taken q C S other own) (λ k. (
-      λ t. ⊎-elim (λ x. let m : k isIn own = bit-elim own k x in taken-intro q C S other own k (fair k m) (inl m))
+    pub taken-word : bitOr (bitsOf own) (bitOr (conditionBits q C) (gatherBits (setWords S) names)) ≡ bitsOf (taken q C S own)
+    taken-word = word-is (bitOr (bitsOf own) (bitOr (conditionBits q C) gather)) (taken q C S own) (λ k. (
+      λ t. ⊎-elim (λ x. let m : k isIn own = bit-elim own k x in taken-intro q C S own k (fair k m) (inl m))
           (λ x. ⊎-elim
-          (λ y. let (c, l) = condition-elim q C k y in taken-intro q C S other own k (number-intro k l) (inr (inl c)))
-          (λ y. let (n, g) = gather-elim k y in taken-intro q C S other own k n (inr g))
+          (λ y. let (c, l) = condition-elim q C k y in taken-intro q C S own k (number-intro k l) (inr (inl c)))
+          (λ y. let (n, g) = gather-elim k y in taken-intro q C S own k n (inr g))
           (or-elim (conditionBits q C) gather k x))
           (or-elim (bitsOf own) (bitOr (conditionBits q C) gather) k t),
-      λ m. or-intro (bitsOf own) (bitOr (conditionBits q C) gather) k (from k (taken-number k m) (taken-elim q C S other own k m)),
+      λ m. or-intro (bitsOf own) (bitOr (conditionBits q C) gather) k (from k (number-elim k (taken-numbered C S own k m)) (taken-elim q C S own k m)),
     ))
       where
         gather : ℕ
-        gather = gatherBits (setWords S) (bitAnd names (bitsOf other))
+        gather = gatherBits (setWords S) names
 
-        taken-number : (k : ℕ) → k isIn taken q C S other own → k < length (q .conditions)
-        taken-number k m = number-elim k (taken-numbered C S other own k m)
-
-        from : (k : ℕ) → k < length (q .conditions) → k isIn own ⊎ Gains q C S other k
+        from : (k : ℕ) → k < length (q .conditions) → k isIn own ⊎ Gains q C S k
             → T (hasBit (bitsOf own) k) ⊎ T (hasBit (bitOr (conditionBits q C) gather) k)
         from k l (inl m) = inl (bit-intro m)
         from k l (inr (inl c)) = inr (or-intro (conditionBits q C) gather k (inl (condition-intro q C k c l)))
-        from k l (inr (inr (d, u, e, f, o, z))) = inr (or-intro (conditionBits q C) gather k (inr (gather-intro k d u e f o z)))
+        from k l (inr (inr (d, u, e, f, z))) = inr (or-intro (conditionBits q C) gather k (inr (gather-intro k d u e f z)))
 
   -- ---- one join
 
@@ -188,44 +179,49 @@ module _ (q : Query) where
     abbrev right : List ℕ
     right = tablesAt nodes (j .right)
 
-    abbrev gain : List ℕ → ℕ
-    gain other = bitOr (conditionBits q (j .conditions))
-        (gatherBits (setWords S) (bitAnd (bitsOf (wordTables (namedBy q (j .conditions)))) (bitsOf other)))
+    abbrev gain : ℕ
+    gain = bitOr (conditionBits q (j .conditions)) (gatherBits (setWords S) (bitsOf (wordTables (namedBy q (j .conditions)))))
+
+    abbrev blanked : ℕ
+    blanked = blankedBits (j .kind) (getD (nodeWords nodes) (j .left) 0) (getD (nodeWords nodes) (j .right) 0)
 
     few-sets : length S ≤ mostTables
     few-sets = omega (arith, p .each)
 
+    -- the tables of the sides that the join blanks
+    blanked-word : (t : ℕ) → hasBit blanked t ≡ isBlanked left right j t
+    unfolding blankedBits isBlanked
+    blanked-word t = rw (node-word nodes few (j .left), node-word nodes few (j .right)) (same-test _ _
+        (λ h. ⊎-elim
+        (λ x. or-left (blanksLeft (j .kind) && has left t) (blanksRight (j .kind) && has right t) (subst T (test-word (blanksLeft (j .kind)) left t) x))
+        (λ x. or-right (blanksLeft (j .kind) && has left t) (blanksRight (j .kind) && has right t) (subst T (test-word (blanksRight (j .kind)) right t) x))
+        (or-elim (onlyIf (blanksLeft (j .kind)) (bitsOf left)) (onlyIf (blanksRight (j .kind)) (bitsOf right)) t h))
+        (λ h. or-intro (onlyIf (blanksLeft (j .kind)) (bitsOf left)) (onlyIf (blanksRight (j .kind)) (bitsOf right)) t
+        (⊎-map (λ x. subst T (sym (test-word (blanksLeft (j .kind)) left t)) x) (λ x. subst T (sym (test-word (blanksRight (j .kind)) right t)) x)
+        (or-yes (blanksLeft (j .kind) && has left t) (blanksRight (j .kind) && has right t) h))))
+
     -- a table of the query
-    of-table : (t : ℕ) → bitOr (bitsOf (setOf S t))
-        (gainBits (onlyIf (blanksLeft (j .kind)) (bitsOf left)) (onlyIf (blanksRight (j .kind)) (bitsOf right)) (gain right) (gain left) t)
-        ≡ bitsOf (setAfter q left right j S t)
-    unfolding gainBits setAfter
-    of-table t = rw (test-word (blanksLeft (j .kind)) left t, test-word (blanksRight (j .kind)) right t)
-        (cases (blanksLeft (j .kind) && has left t) (blanksRight (j .kind) && has right t))
+    of-table : (t : ℕ) → bitOr (bitsOf (setOf S t)) (onlyIf (hasBit blanked t) gain) ≡ bitsOf (setAfter q left right j S t)
+    unfolding setAfter onlyIf
+    of-table t = rw (blanked-word t) (cases (isBlanked left right j t))
       where
         own : List ℕ
         own = setOf S t
 
-        cases : (x y : Bool) → bitOr (bitsOf own) (if x then gain right else if y then gain left else 0)
-            ≡ bitsOf (if x then taken q (j .conditions) S right own else if y then taken q (j .conditions) S left own else own)
-        cases true y = taken-word (j .conditions) S few-sets p right own (λ k m. p .numbered t k m)
-        cases false true = taken-word (j .conditions) S few-sets p left own (λ k m. p .numbered t k m)
-        cases false false = or-zero-r (bitsOf own)
+        cases : (x : Bool) → bitOr (bitsOf own) (onlyIf x gain) ≡ bitsOf (if x then taken q (j .conditions) S own else own)
+        cases true = taken-word (j .conditions) S few-sets p own (λ k m. p .numbered t k m)
+        cases false = or-zero-r (bitsOf own)
 
     -- no table of the query
     absent : (ts : List ℕ) (i t : ℕ) → ts ≡ tablesAt nodes i → tableCount q ≤ t → has ts t ≡ false
     absent ts i t e h = same-test (has ts t) false
         (λ x. let l = below i t (subst (λ (l : List ℕ). t isIn l) e (has-elim ts t x)) in absurd (omega arith)) (λ x. absurd x)
 
-    of-none : (t : ℕ) → tableCount q ≤ t
-        → bitOr (bitsOf (setOf S t))
-        (gainBits (onlyIf (blanksLeft (j .kind)) (bitsOf left)) (onlyIf (blanksRight (j .kind)) (bitsOf right)) (gain right) (gain left) t) ≡ bitsOf
-        (setOf S t)
-    unfolding gainBits
+    of-none : (t : ℕ) → tableCount q ≤ t → bitOr (bitsOf (setOf S t)) (onlyIf (hasBit blanked t) gain) ≡ bitsOf (setOf S t)
+    unfolding onlyIf isBlanked
     of-none t h =
         rw (
-          test-word (blanksLeft (j .kind)) left t,
-          test-word (blanksRight (j .kind)) right t,
+          blanked-word t,
           absent left (j .left) t refl h,
           absent right (j .right) t refl h,
           and-false (blanksLeft (j .kind)),
@@ -235,19 +231,11 @@ module _ (q : Query) where
     pub after-words : afterWords (nodeWords nodes) (setWords S) (joinBits q j) ≡ setWords (setsAfter q nodes j S)
     unfolding afterWords takenWords joinBits setWords wordsTo
     after-words = tab-same
-        (λ t. bitOr (getD (setWords S) t 0)
-        (gainBits (onlyIf (blanksLeft (j .kind)) (getD (nodeWords nodes) (j .left) 0))
-        (onlyIf (blanksRight (j .kind)) (getD (nodeWords nodes) (j .right) 0))
-        (bitOr (conditionBits q (j .conditions))
-        (gatherBits (setWords S) (bitAnd (bitsOf (wordTables (namedBy q (j .conditions)))) (getD (nodeWords nodes) (j .right) 0))))
-        (bitOr (conditionBits q (j .conditions))
-        (gatherBits (setWords S) (bitAnd (bitsOf (wordTables (namedBy q (j .conditions)))) (getD (nodeWords nodes) (j .left) 0)))) t))
+        (λ t. bitOr (getD (setWords S) t 0) (onlyIf (hasBit blanked t) gain))
         (λ t. bitsOf (setOf (setsAfter q nodes j S) t)) 0 mostTables
-        (λ t a b. rw (node-word nodes few (j .left), node-word nodes few (j .right), set-word S few-sets t) (each-table t))
+        (λ t a b. rw (set-word S few-sets t) (each-table t))
       where
-        each-table : (t : ℕ) → bitOr (bitsOf (setOf S t))
-            (gainBits (onlyIf (blanksLeft (j .kind)) (bitsOf left)) (onlyIf (blanksRight (j .kind)) (bitsOf right)) (gain right) (gain left) t)
-            ≡ bitsOf (setOf (setsAfter q nodes j S) t)
+        each-table : (t : ℕ) → bitOr (bitsOf (setOf S t)) (onlyIf (hasBit blanked t) gain) ≡ bitsOf (setOf (setsAfter q nodes j S) t)
         each-table t = by-cases (decT (ltb t (tableCount q)))
             (λ l. of-table t ∙ sym (ap bitsOf (set-after q nodes j S t (ltb-yes l))))
             (λ l. let h : tableCount q ≤ t = ltb-no (not-T (ltb t (tableCount q)) l) in

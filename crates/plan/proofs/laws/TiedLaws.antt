@@ -22,6 +22,7 @@ use Rattle.vocabulary.proofs.laws.NodeLaws.{Matched}
 use Rattle.vocabulary.proofs.laws.WellRead.{Numbered}
 use Rattle.plan.specs.Plan.{between, crosses}
 use Rattle.plan.specs.Questions.{columnExists, sideExists, conditionFits}
+use Rattle.plan.proofs.laws.SetLaws.{Inside}
 use Rattle.plan.proofs.laws.BuiltLaws.{each-node, nodes-alike}
 
 -- ---- what the tests of a condition say of the tables that it names
@@ -85,8 +86,7 @@ module _ (s l : List ℕ) where
 -- one of them a table under each
 pub record Tied (q : Query) (nodes : List (List ℕ)) (j : Join) : Type 0 where
   pub numbered : Numbered q j
-  pub inside : BlanksRight (j .kind) → (c : ℕ) → c isIn j .conditions → (t : ℕ) → t isIn namesOf (conditionAt q c)
-      → t isIn tablesAt nodes (j .left) ⊎ t isIn tablesAt nodes (j .right)
+  pub inside : Inside q nodes j
   pub across : BlanksRight (j .kind)
       → (c : ℕ) × c isIn j .conditions × Across (tablesAt nodes (j .left)) (tablesAt nodes (j .right)) (namesOf (conditionAt q c))
 

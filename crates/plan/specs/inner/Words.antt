@@ -1,13 +1,13 @@
 -- Joins, nodes, sets and the set rule of blanking sets, with sets of conditions and of tables as words. Assumes nothing.
 use mathlib.Core.List.{List, map, [], _∷_}
 use Prim.Native.Nat.{ℕ}
-use lib.Bits.{bitOr, bitAnd}
+use lib.Bits.{bitOr}
 use lib.ListN.{length, getD}
 use Rattle.cells.specs.Limits.{mostTables, mostNodes}
-use Rattle.cells.specs.Choice.{if_then_else_}
 use Rattle.cells.specs.Condition.{namesOf}
 use Rattle.cells.specs.declared.condition.Condition.{Condition}
 use Rattle.rows.specs.Lists.{keep, has, range}
+use Rattle.rows.specs.declared.kind.Kind.{Kind}
 use Rattle.vocabulary.specs.Report.{Query, conditionAt, conditionNumbers, Join, namedBy, Pair}
 use Rattle.vocabulary.specs.Bits.{hasBit}
 use Rattle.vocabulary.specs.Steps.{bitsOf}
@@ -68,18 +68,15 @@ nodesFrom n ps = grown tablesOfPair (map (λ t. t ∷ []) (range 0 n)) ps
 unfoldable pub gatherBits : List ℕ → ℕ → ℕ
 gatherBits sets tables = unionTo (λ t. onlyIf (hasBit tables t) (getD sets t 0)) mostTables
 
--- what a table takes: one word as a table of the left side, another as a table of the right side
-unfoldable pub gainBits : ℕ → ℕ → ℕ → ℕ → ℕ → ℕ
-gainBits left right toLeft toRight t = if hasBit left t then toLeft else if hasBit right t then toRight else 0
+-- the sets, each with what its table takes where it is one of those that the join blanks
+unfoldable pub takenWords : List ℕ → ℕ → ℕ → List ℕ
+takenWords sets blanked gain = map (λ t. bitOr (getD sets t 0) (onlyIf (hasBit blanked t) gain)) (range 0 mostTables)
 
-unfoldable pub takenWords : List ℕ → ℕ → ℕ → ℕ → ℕ → List ℕ
-takenWords sets left right toLeft toRight = map (λ t. bitOr (getD sets t 0) (gainBits left right toLeft toRight t)) (range 0 mostTables)
+-- the tables of the sides that a join blanks
+unfoldable pub blankedBits : Kind → ℕ → ℕ → ℕ
+blankedBits k left right = bitOr (onlyIf (blanksLeft k) left) (onlyIf (blanksRight k) right)
 
 -- the sets after a join, given the tables under each node
 unfoldable pub afterWords : List ℕ → List ℕ → BitJoin → List ℕ
 afterWords nodes sets j =
-    takenWords sets
-    (onlyIf (blanksLeft (j .kind)) (getD nodes (j .left) 0))
-    (onlyIf (blanksRight (j .kind)) (getD nodes (j .right) 0))
-    (bitOr (j .conditions) (gatherBits sets (bitAnd (j .names) (getD nodes (j .right) 0))))
-    (bitOr (j .conditions) (gatherBits sets (bitAnd (j .names) (getD nodes (j .left) 0))))
+    takenWords sets (blankedBits (j .kind) (getD nodes (j .left) 0) (getD nodes (j .right) 0)) (bitOr (j .conditions) (gatherBits sets (j .names)))

@@ -1,13 +1,12 @@
--- The code's answers to questions 2 to 8 are those on the report. Assumes nothing.
-use mathlib.Core.Path.{_≡_, sym, _∙_, subst, ap}
+-- The code's answers to questions 2 to 7 are those on the report. Assumes nothing.
+use mathlib.Core.Path.{_≡_, sym, _∙_, ap}
 use mathlib.Core.Bool.{Bool, true, false, _&&_}
 use mathlib.Core.List.{List}
 use mathlib.Core.Option.{Option, none, some}
 use Prim.Native.Nat.{_≤_, ℕ}
 use native.Mathlib.Omega.{arith}
-use lib.Dec.{T, leb}
+use lib.Dec.{leb}
 use lib.IntN.{ℤ}
-use mir.Facts.{and-yes}
 use Rattle.cells.proofs.laws.BoolLaws.{clash}
 use Rattle.cells.specs.Limits.{mostTables, mostJoins, mostWritten}
 use Rattle.vocabulary.specs.Report.{Report, queryOf}
@@ -23,9 +22,9 @@ use Rattle.text.specs.Reading.{readReport}
 use Rattle.reader.specs.inner.Outcome.{turnedDown, says, answerIn, readOutcome, CellsAfter}
 use Rattle.reader.specs.declared.read.ReadAnswer as Read
 use Rattle.reader.specs.declared.read.ReadOutcome.the-variants as O
-use Rattle.plan.specs.Questions.{queryQuestions, question5, question6, question7, question8}
+use Rattle.plan.specs.Questions.{queryQuestions, question5, question6, question7}
 use Rattle.questions.proofs.laws.Kept.{room-of}
-use Rattle.questions.proofs.laws.Whole.{whole-five, whole-six, whole-seven, whole-eight}
+use Rattle.questions.proofs.laws.Whole.{whole-five, whole-six, whole-seven}
 use Rattle.prepare.specs.Asking.{sharedQuestions}
 use Rattle.prepare.specs.inner.Accept.{numberIn, Asked, refusal, KeptText, Accepts}
 use Rattle.prepare.proofs.laws.Standing.{read-refused, read-kept}
@@ -42,9 +41,6 @@ module _ (s : StoredQuery) (t : s .«table_count» ≤ mostTables) {b : Bool} (e
   module _ (f : b ≡ true) where
     pub joins-room : s .«join_count» ≤ mostJoins
     joins-room = room-of (s .«join_count») mostJoins (question5 (queryIn s)) (sym e ∙ f)
-
-    pub joins-built : T (question5 (queryIn s))
-    joins-built = and-yes (leb (s .«join_count») mostJoins) (question5 (queryIn s)) (subst T (sym (sym e ∙ f)) tt) .1
 
     yes-5 : {cells : List ℤ} {r : Report} → Stands s cells r → question5 (queryOf r) ≡ true
     yes-5 k = sym (whole-five k) ∙ sym e ∙ f
@@ -71,19 +67,10 @@ module _ (s : StoredQuery) (t : s .«table_count» ≤ mostTables) {b : Bool} (e
           unfolding numberIn queryQuestions
           refused-7 x cells r k = sym (asked-yes _ _ _ (yes-5 k) ∙ asked-yes _ _ _ (yes-6 k) ∙ asked-no _ _ _ (seven k x))
 
-          module _ (j : d ≡ true) {z : Bool} (l : z ≡ question8 (queryIn s)) where
-            eight : {cells : List ℤ} {r : Report} → Stands s cells r → {x : Bool} → z ≡ x → question8 (queryOf r) ≡ x
-            eight k x = sym (whole-eight k joins-room (counted .conditions)) ∙ sym l ∙ x
-
-            pub refused-8 : z ≡ false → Asked s (Refused 8)
-            unfolding numberIn queryQuestions
-            refused-8 x cells r k =
-                sym (asked-yes _ _ _ (yes-5 k) ∙ asked-yes _ _ _ (yes-6 k) ∙ asked-yes _ _ _ (seven k j) ∙ asked-no _ _ _ (eight k x))
-
-            pub accepted : z ≡ true → Asked s Accepted
-            unfolding numberIn queryQuestions
-            accepted x cells r k =
-                sym (asked-yes _ _ _ (yes-5 k) ∙ asked-yes _ _ _ (yes-6 k) ∙ asked-yes _ _ _ (seven k j) ∙ asked-yes _ _ _ (eight k x) ∙ none-left (queryOf r))
+          pub accepted : d ≡ true → Asked s Accepted
+          unfolding numberIn queryQuestions
+          accepted x cells r k =
+              sym (asked-yes _ _ _ (yes-5 k) ∙ asked-yes _ _ _ (yes-6 k) ∙ asked-yes _ _ _ (seven k x) ∙ none-left (queryOf r))
 
 -- ---- a call
 

@@ -31,7 +31,7 @@ use Rattle.text.specs.TableQuestions.{tableQuestions, question3, tableFits, cel
 use Rattle.text.specs.Lines.{Line}
 use Rattle.text.specs.Reading.{reportOf, textLines, readReport}
 use Rattle.text.proofs.laws.ReadingLaws.{report-well-read}
-use Rattle.plan.specs.Questions.{queryQuestions, question5, question6, question7, question8}
+use Rattle.plan.specs.Questions.{queryQuestions, question5, question6, question7}
 use Rattle.plan.proofs.laws.QueryLaws.{Accepted}
 use Rattle.questions.proofs.laws.Kept.{room-of}
 use Rattle.questions.proofs.laws.Whole.{whole-five, whole-six}
@@ -61,7 +61,7 @@ module _ (r : Report) (yes : firstNo sharedQuestions r ≡ none) where
   unfolding sharedQuestions
   query-yes = sym (first-about queryOf queryQuestions r) ∙ append-yes tableQuestions (about queryOf queryQuestions) r yes .1
 
-  -- questions 5 to 8 say that its query is accepted
+  -- questions 5 to 7 say that its query is accepted
   pub report-accepted : WellRead (queryOf r) → Accepted (queryOf r)
   unfolding queryQuestions
   report-accepted well = record {
@@ -69,7 +69,6 @@ module _ (r : Report) (yes : firstNo sharedQuestions r ≡ none) where
     five = all-yes queryQuestions (queryOf r) query-yes (5, λ (q : Query). question5 q) (here refl);
     six = all-yes queryQuestions (queryOf r) query-yes (6, λ (q : Query). question6 q) (there (here refl));
     seven = all-yes queryQuestions (queryOf r) query-yes (7, λ (q : Query). question7 q) (there (there (here refl)));
-    eight = all-yes queryQuestions (queryOf r) query-yes (8, λ (q : Query). question8 q) (there (there (there (here refl))));
   }
 
 -- a table that question 3 passes

@@ -1,5 +1,5 @@
--- Questions 2 to 8 on a text, as the code answers them, and what is kept of a text that passes them. For the functions of src/accept.rt.
--- Specification 9.4, 9.5, 9.6, 9.7, 9.8, 9.9, 9.10. Assumes nothing.
+-- Questions 2 to 7 on a text, as the code answers them, and what is kept of a text that passes them. For the functions of src/accept.rt.
+-- Specification 9.4, 9.5, 9.6, 9.7, 9.8, 9.9. Assumes nothing.
 use mathlib.Core.Path.{_≡_}
 use mathlib.Core.List.{List}
 use mathlib.Core.Option.{Option, none, some}
@@ -20,7 +20,7 @@ use Rattle.prepare.specs.declared.accept.AcceptAnswer.{AcceptAnswer}
 use Rattle.prepare.specs.declared.accept.AcceptOutcome.{AcceptOutcome}
 use Rattle.prepare.specs.declared.accept.AcceptOutcome.the-variants.{Refused, Accepted}
 
--- the number of the first of questions 2 to 8 that is answered no. Specification 9.1
+-- the number of the first of questions 2 to 7 that is answered no. Specification 9.1
 unfoldable pub refusal : Bytes → Option ℕ
 refusal bs = elim (readReport bs) [ none ↦ some 2 | some r ↦ firstNo sharedQuestions r ]
 

@@ -7,7 +7,7 @@ use Prim.Native.Nat.{ℕ, _<_, _≤_, _+_, suc, _-_}
 use native.Mathlib.Numerals.{add-one}
 use native.Mathlib.Omega.{arith}
 use lib.Dec.{leb, T}
-use lib.ListN.{length, getD, take, drop, length-map, length-drop}
+use lib.ListN.{length, getD, take, drop, length-map, length-drop, drop-of-length-le}
 use lib.Seq.{drop-cons, length-take-le}
 use borrow.Author.Tests.{lt-leb, le-leb}
 use mir.Facts.{and-yes, leb-yes}
@@ -66,6 +66,17 @@ module _ {A : Type 0} where
       pub any-turn : p x ≡ false → any p l ≡ any p rest
       unfolding any
       any-turn f = rw (e, f)
+
+-- a test of every element from the i-th on
+module _ {A : Type 0} (p : A → Bool) (l : List A) where
+  pub all-next : (i : ℕ) (d : A) → i < length l → p (getD l i d) ≡ true → all p (drop i l) ≡ all p (drop (i + 1) l)
+  all-next i d h e = all-turn p (drop i l) (getD l i d) (drop (suc i) l) (drop-cons l i d h) e ∙ rw (add-one i)
+
+  pub all-stops : (i : ℕ) (d : A) → i < length l → p (getD l i d) ≡ false → all p (drop i l) ≡ false
+  all-stops i d h e = all-stop p (drop i l) (getD l i d) (drop (suc i) l) (drop-cons l i d h) e
+
+  pub all-ends : (i : ℕ) → length l ≤ i → all p (drop i l) ≡ true
+  all-ends i h = all-end p (drop i l) (drop-of-length-le l h)
 
 -- ---- an array's first elements
 

@@ -2,7 +2,7 @@
 -- answered no, and else nothing was left out. Assumes nothing.
 use mathlib.Core.Path.{_≡_, sym, _∙_, refl, ap, ap₂}
 use mathlib.Core.Logic.{by-cases}
-use mathlib.Core.Bool.{Bool, false, _&&_, not}
+use mathlib.Core.Bool.{Bool, false, _&&_}
 use mathlib.Core.List.{List, _++_, [], _∷_, map}
 use Prim.Native.Nat.{ℕ, _<_, _≤_}
 use native.Mathlib.Omega.{arith}
@@ -17,14 +17,13 @@ use Rattle.cells.specs.declared.condition.Side.{Side}
 use Rattle.cells.specs.declared.condition.Side.the-variants.{Column, Constant}
 use Rattle.rows.specs.Lists.{all, any}
 use Rattle.rows.proofs.laws.ListLaws.{decT}
-use Rattle.vocabulary.specs.Report.{Pair, Join, Query, conditionAt, tableCount, tableNumbers, namedBy, joinPairs, Report, queryOf}
+use Rattle.vocabulary.specs.Report.{Pair, Join, Query, conditionAt, tableCount, tableNumbers, joinPairs, Report, queryOf}
 use Rattle.vocabulary.specs.Nodes.{wellBuilt, tablesAt, joinNodes, nodesOf, treesOf, joinTrees}
 use Rattle.vocabulary.specs.inner.Stored.{queryIn}
 use Rattle.vocabulary.specs.inner.Stands.{Stands}
 use Rattle.vocabulary.specs.declared.query.StoredQuery.{StoredQuery}
 use Rattle.plan.specs.Plan.{crosses}
-use Rattle.plan.specs.Sets.{blanksLeft, blanksRight}
-use Rattle.plan.specs.Questions.{conditionFits, namesRightSide, columnExists, sideExists, question6, question7, question8, question5, noneOrBuilt, question9}
+use Rattle.plan.specs.Questions.{conditionFits, columnExists, sideExists, question6, question7, question5, noneOrBuilt, question9}
 use Rattle.questions.proofs.laws.Kept.{too-many, enough-room, all-same, any-same}
 use Rattle.questions.proofs.laws.BuiltWordLaws.{built-count}
 
@@ -38,19 +37,14 @@ whole n most a b within beyond = by-cases (decT (leb n most))
 built-beyond : (n : ℕ) (ps : List Pair) → n ≤ mostTables → mostJoins < length ps → wellBuilt n ps ≡ false
 built-beyond n ps h l = built-count n ps (λ e. omega arith)
 
--- what questions 6, 7 and 8 ask of a join
+-- what questions 6 and 7 ask of a join
 abbrev six : Query → Join → Bool
 six q j = all (λ k. conditionFits q (tablesAt (joinNodes q) (j .left) ++ tablesAt (joinNodes q) (j .right)) (conditionAt q k)) (j .conditions)
 
 abbrev seven : Query → Join → Bool
 seven q j = any (λ k. crosses (conditionAt q k) (tablesAt (joinNodes q) (j .left)) (tablesAt (joinNodes q) (j .right))) (j .conditions)
 
-abbrev eight : Query → Join → Bool
-eight q j =
-    not (blanksLeft (j .kind) && namesRightSide q (j .conditions) (j .left))
-    && not (blanksRight (j .kind) && namesRightSide q (j .conditions) (j .right))
-
--- the tree, and questions 6, 7 and 8, do not look at the P lines
+-- the tree, and questions 6 and 7, do not look at the P lines
 module _ (q r : Query) (c : q .columns ≡ r .columns) (j : q .joins ≡ r .joins) where
   trees-same : joinTrees q ≡ joinTrees r
   unfolding joinTrees treesOf tableNumbers tableCount
@@ -87,17 +81,6 @@ module _ (q r : Query) (c : q .columns ≡ r .columns) (j : q .joins ≡ r .join
     seven-same : question7 q ≡ question7 r
     unfolding question7
     seven-same = all-same (seven q) (seven r) (q .joins) (λ x. any-same _ _ (x .conditions) (λ i. rw (number-same i, nodes-same))) ∙ ap (all (seven r)) j
-
-    named-same : (C : List ℕ) (i : ℕ) → namesRightSide q C i ≡ namesRightSide r C i
-    unfolding namesRightSide namedBy conditionAt
-    named-same C i = rw (trees-same, d)
-
-    eight-same : question8 q ≡ question8 r
-    unfolding question8
-    eight-same =
-        all-same (eight q) (eight r) (q .joins)
-        (λ (x : Join). rw (named-same (x .conditions) (x .left), named-same (x .conditions) (x .right)))
-        ∙ ap (all (eight r)) j
 
     -- queries that have the same P lines too are the same
     query-same : q .pairs ≡ r .pairs → q ≡ r
@@ -155,9 +138,6 @@ module _ {s : StoredQuery} {cells : List ℤ} {r : Report} (k : Stands s cells r
     module _ (m : s .«condition_count» ≤ mostConditions) where
       pub whole-seven : question7 (queryIn s) ≡ question7 q
       whole-seven = seven-same (queryIn s) q (k .columns) (same-joins n) (same-conditions m)
-
-      pub whole-eight : question8 (queryIn s) ≡ question8 q
-      whole-eight = eight-same (queryIn s) q (k .columns) (same-joins n) (same-conditions m)
 
       -- once question 9 was answered yes
       pub whole-query : s .«pair_count» ≤ mostPairs → queryIn s ≡ q

@@ -1,19 +1,19 @@
 -- Laws of nodes: lists that grow, and that the tables under a node are those of its tree. Assumes nothing.
-use mathlib.Core.Path.{_≡_, refl, _∙_, sym, subst, ap, ap₂}
+use mathlib.Core.Path.{_≡_, refl, _∙_, sym, subst, ap}
 use mathlib.Core.Logic.{by-cases, _⊎_, _↔_, inl, inr, ⊎-elim}
 use mathlib.Core.Bool.{_&&_}
-use mathlib.Core.List.{List, [], _∷_, _++_, map}
-use Prim.Native.Nat.{ℕ, suc, _+_, _<_, zero}
+use mathlib.Core.List.{List, [], _∷_, _++_}
+use Prim.Native.Nat.{ℕ, suc, _+_, _<_}
 use native.Mathlib.Decide.{ℕ-discrete}
 use native.Mathlib.Omega.{arith}
 use native.Mathlib.Nat.{add-suc}
 use lib.Dec.{T, ltb}
-use lib.ListN.{length, getD, length-append, List·getD-append, take}
+use lib.ListN.{length, getD, length-append, List·getD-append}
 use lib.Seq.{getD-append-seam}
 use mir.Facts.{and-yes, ltb-yes}
 use Rattle.rows.specs.Lists.{_isIn_}
 use Rattle.rows.proofs.laws.ListLaws.{append-left, append-right, append-elim}
-use Rattle.rows.specs.Trees.{Tree, leaf, tablesUnder}
+use Rattle.rows.specs.Trees.{Tree, leaf}
 use Rattle.rows.proofs.laws.ShapesLaws.{HasTable}
 use Rattle.vocabulary.specs.Report.{Join, Pair}
 use Rattle.vocabulary.specs.Nodes.{grown, tablesAt, treeAt, tablesOfPair, treeOf, lowerSides}
@@ -108,39 +108,3 @@ alike-grown nodes trees l (nextPair {p} {j} {ps} {js} s g m) h a =
     (length-append nodes (tablesOfPair nodes p ∷ []) ∙ ap (λ (k : ℕ). k + 1) l ∙ sym (length-append trees (treeOf trees j ∷ [])))
     m (subst (λ (k : ℕ). T (lowerSides k ps)) (sym (longer treeOf trees (treeOf trees j))) hs)
     (alike-next nodes trees p j l s hl hr a)
-
--- ---- where the pairs are the sides of the joins, the lists of tables are equal
-
-abbrev pub sides : Join → Pair
-sides j = (j .left, j .right)
-
-abbrev pub Same : List (List ℕ) → List (Tree ℕ) → Type 0
-Same nodes trees = (i : ℕ) → i < length trees → tablesAt nodes i ≡ tablesUnder (treeAt trees i)
-
-same-next : (nodes : List (List ℕ)) (trees : List (Tree ℕ)) (j : Join) → length nodes ≡ length trees → j .left < length trees → j .right < length trees
-    → Same nodes trees → Same (nodes ++ (tablesOfPair nodes (sides j) ∷ [])) (trees ++ (treeOf trees j ∷ []))
-unfolding tablesAt treeAt treeOf tablesOfPair tablesUnder
-same-next nodes trees j l hl hr s = extended trees (treeOf trees j) (leaf 0) (λ i (E : Tree ℕ). getD (nodes ++ (x ∷ [])) i [] ≡ tablesUnder E)
-    (λ i h. List·getD-append nodes (x ∷ []) [] i (omega arith) ∙ s i h)
-    (ap (λ (k : ℕ). getD (nodes ++ (x ∷ [])) k []) (sym l) ∙ getD-append-seam nodes x [] [] ∙ ap₂ _++_ (s (j .left) hl) (s (j .right) hr))
-  where
-    x : List ℕ
-    x = tablesOfPair nodes (sides j)
-
--- the tables of a join's right side, when its tree is made, are those under the node
-pub right-tables : (nodes : List (List ℕ)) (trees : List (Tree ℕ)) (js : List Join) → length nodes ≡ length trees
-    → T (lowerSides (length trees) (map sides js))
-    → Same nodes trees → (i : ℕ) (j : Join) → i < length js → getD js i j ≡ j
-    → tablesAt (grown tablesOfPair nodes (map sides js)) (j .right) ≡ tablesUnder (treeAt (grown treeOf trees (take i js)) (j .right))
-unfolding grown tablesAt
-right-tables nodes trees [] l b s i j h e = absurd (omega arith)
-right-tables nodes trees (x ∷ js) l b s zero j h e =
-    let (hl, hr, hs) = lower-elim (length trees) (sides x) (map sides js) b in
-    let r : j .right < length trees = subst (λ (y : Join). y .right < length trees) e hr in
-    grown-old tablesOfPair nodes (map sides (x ∷ js)) (j .right) [] (omega arith) ∙ s (j .right) r
-right-tables nodes trees (x ∷ js) l b s (suc i) j h e =
-    let (hl, hr, hs) = lower-elim (length trees) (sides x) (map sides js) b in
-    right-tables (nodes ++ (tablesOfPair nodes (sides x) ∷ [])) (trees ++ (treeOf trees x ∷ [])) js
-    (omega (arith, longer tablesOfPair nodes (tablesOfPair nodes (sides x)), longer treeOf trees (treeOf trees x)))
-    (subst (λ (k : ℕ). T (lowerSides k (map sides js))) (sym (longer treeOf trees (treeOf trees x))) hs)
-    (same-next nodes trees x l hl hr s) i j (omega arith) e

@@ -20,7 +20,8 @@ const TABLES: usize = 8;
 const ORDERS: usize = 135_135;
 
 /// Reports of eight tables without P lines; | stands for a tab.
-const REPORTS: [(&str, &str); 3] = [("gaps", GAPS), ("an empty table", EMPTY), ("products", PRODUCTS)];
+const REPORTS: [(&str, &str); 4] =
+    [("gaps", GAPS), ("an empty table", EMPTY), ("products", PRODUCTS), ("outer joins undone", UNDONE)];
 
 /// Two or three rows a table, with blank cells; inner and outer joins mixed, both sides of a join being joins.
 const GAPS: &str = "\
@@ -75,6 +76,24 @@ J|L|10|5\nC|4|0|<=|5|0\n\
 J|L|11|6\nC|5|0|=|6|0\nC|3|0|<=|6|0\n\
 J|L|9|12\nC|0|0|=|3|0\nC|2|0|=|4|0\n\
 J|L|13|7\nC|0|0|>|7|0\nC|6|0|>=|7|0\n";
+
+/// A tree that is not simplified: an inner join undoes two outer joins, an outer join a third one, and three stay.
+const UNDONE: &str = "\
+T|2\nD|1|5\nD|2|6\nD|2|5\n\
+T|2\nD|1|7\nD|2|8\nD|2|-\n\
+T|1\nD|7\nD|-\n\
+T|2\nD|1|4\nD|2|5\n\
+T|1\nD|4\n\
+T|2\nD|5|2\nD|6|2\nD|5|-\n\
+T|1\nD|1\nD|2\n\
+T|1\nD|7\nD|9\n\
+J|L|0|1\nC|0|0|=|1|0\n\
+J|L|8|2\nC|1|1|=|2|0\n\
+J|L|3|4\nC|3|1|=|4|0\n\
+J|L|9|10\nC|0|0|=|3|0\nC|0|1|>=|4|0\n\
+J|L|5|6\nC|5|1|=|6|0\n\
+J|I|11|12\nC|0|1|=|5|0\nC|1|0|<=|6|0\n\
+J|L|13|7\nC|1|1|<=|7|0\nC|2|0|=|7|0\n";
 
 /// A tree: a table, or two trees.
 #[derive(Clone)]

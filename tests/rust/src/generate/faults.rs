@@ -1,4 +1,4 @@
-//! Faults that turn a valid report into one that questions 3 to 9 and 11 turn down.
+//! Faults that turn a valid report into one that questions 3 to 7, 9 and 11 turn down.
 
 use super::Random;
 use super::reports::{Other, Report, Table};
@@ -6,14 +6,13 @@ use crate::{CELLS, CONDITIONS, ROWS, TABLES};
 
 /// Adds one fault, where the report has a place for it.
 pub fn add(report: &mut Report, random: &mut Random) {
-    match random.below(8) {
+    match random.below(7) {
         0 => size(report, random),
         1 => width(report, random),
         2 => tree(report, random),
         3 => condition(report, random),
         4 => no_link(report, random),
-        5 => not_simplified(report, random),
-        6 => order(report, random),
+        5 => order(report, random),
         _ => many_rows(report, random),
     }
 }
@@ -118,7 +117,7 @@ fn no_link(report: &mut Report, random: &mut Random) {
         return;
     }
     let at = random.below(report.joins.len());
-    let side = report.joins[at].allowed[random.below(2)].clone();
+    let side = report.joins[at].named[random.below(2)].clone();
     if side.iter().any(|&table| table >= report.tables.len()) {
         return;
     }
@@ -128,27 +127,6 @@ fn no_link(report: &mut Report, random: &mut Random) {
         report.constant(side[0], 0, random)
     };
     report.joins[at].conditions.fill(condition);
-}
-
-/// Question 8: a condition names a table that it may not.
-fn not_simplified(report: &mut Report, random: &mut Random) {
-    let mut places = vec![];
-    for (at, join) in report.joins.iter().enumerate() {
-        for (under, allowed) in join.under.iter().zip(&join.allowed) {
-            places.extend(under.iter().filter(|table| !allowed.contains(table)).map(|&table| (at, table)));
-        }
-    }
-    if places.is_empty() {
-        return;
-    }
-    let (at, table) = random.pick(&places);
-    let join = &mut report.joins[at];
-    let condition = random.below(join.conditions.len());
-    let condition = &mut join.conditions[condition];
-    match &mut condition.other {
-        Other::Column(second, column) if random.one_in(2) => (*second, *column) = (table, 0),
-        _ => (condition.table, condition.column) = (table, 0),
-    }
 }
 
 /// Question 11: all rows match. An empty table leaves it to the order whether a result is too long.

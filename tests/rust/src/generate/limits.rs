@@ -168,7 +168,7 @@ fn chain(tables: Vec<Table>, outer: bool) -> Report {
 fn join(outer: bool, sides: [usize; 2], [first, second]: [usize; 2], column: impl Fn(usize) -> usize) -> Join {
     let other = Other::Column(second, column(second));
     let condition = Condition { table: first, column: column(first), operator: "=", other };
-    Join { outer, sides, under: Default::default(), allowed: Default::default(), conditions: vec![condition] }
+    Join { outer, sides, named: Default::default(), conditions: vec![condition] }
 }
 
 /// Eight tables of 3072 + 256 * `wide` + `last` cells, each joined to the first by its row number.

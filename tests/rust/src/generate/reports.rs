@@ -31,9 +31,8 @@ pub struct Condition {
 pub struct Join {
     pub outer: bool,
     pub sides: [usize; 2],
-    /// The tables under each side, and those that its conditions may name (question 8).
-    pub under: [Vec<usize>; 2],
-    pub allowed: [Vec<usize>; 2],
+    /// The tables of each side that its conditions may name.
+    pub named: [Vec<usize>; 2],
     pub conditions: Vec<Condition>,
 }
 
@@ -89,10 +88,9 @@ impl Report {
             let mut row = || vec![take(&mut keys, random), cell(values, blanks, random)];
             report.tables.push(Table { columns: 2, rows: (0..rows).map(|_| row()).collect() });
         }
-        let sides = [vec![0], vec![1]];
         let equal = Condition { table: 0, column: 0, operator: EQUAL, other: Other::Column(1, 0) };
         let outer = random.one_in(2);
-        let mut join = Join { outer, sides: [0, 1], under: sides.clone(), allowed: sides, conditions: vec![equal] };
+        let mut join = Join { outer, sides: [0, 1], named: [vec![0], vec![1]], conditions: vec![equal] };
         for _ in 0..1 + random.below(6) {
             let more = report.one_more(&join, 3, random);
             join.conditions.push(more);
@@ -104,27 +102,25 @@ impl Report {
         report
     }
 
+    /// Joins whose conditions name any table under them. One report of five is made so that its tree is simplified: no
+    /// join names a table right of an outer join in a side that it blanks.
     fn add_joins(&mut self, values: usize, random: &mut Random) {
         let count = self.tables.len();
+        let simplified = random.one_in(5);
         let outer_chances = random.pick(&[1, 2, 2, 2, 4, 100]);
         let mut roots: Vec<Node> =
             (0..count).map(|table| Node { number: table, tables: vec![table], nullable: vec![] }).collect();
         for number in count..2 * count - 1 {
             let (left, right) = (take(&mut roots, random), take(&mut roots, random));
             let outer = random.one_in(outer_chances);
-            let without = |node: &Node| {
-                node.tables.iter().copied().filter(|table| !node.nullable.contains(table)).collect::<Vec<_>>()
+            let named = |node: &Node, blanked: bool| -> Vec<usize> {
+                let without = |table: &usize| !(simplified && blanked && node.nullable.contains(table));
+                node.tables.iter().copied().filter(without).collect()
             };
-            let allowed = [if outer { left.tables.clone() } else { without(&left) }, without(&right)];
+            let named = [named(&left, !outer), named(&right, true)];
             let nullable = [left.nullable, if outer { right.tables.clone() } else { right.nullable }].concat();
             let tables = [&left.tables[..], &right.tables].concat();
-            let mut join = Join {
-                outer,
-                sides: [left.number, right.number],
-                under: [left.tables, right.tables],
-                allowed,
-                conditions: vec![],
-            };
+            let mut join = Join { outer, sides: [left.number, right.number], named, conditions: vec![] };
             let between = self.between(&join, random);
             join.conditions.push(between);
             while random.one_in(3) {
@@ -139,7 +135,7 @@ impl Report {
 
     /// A condition between the join's sides.
     pub fn between(&self, join: &Join, random: &mut Random) -> Condition {
-        let mut sides = [random.pick(&join.allowed[0]), random.pick(&join.allowed[1])];
+        let mut sides = [random.pick(&join.named[0]), random.pick(&join.named[1])];
         if random.one_in(2) {
             sides.reverse();
         }
@@ -165,8 +161,7 @@ impl Report {
 
     /// Any condition that the join may have.
     pub fn condition(&self, join: &Join, values: usize, random: &mut Random) -> Condition {
-        let allowed = random.pick(&[0, 1]);
-        let side = &join.allowed[allowed];
+        let side = &join.named[random.below(2)];
         let table = random.pick(side);
         match random.below(4) {
             0 | 1 => self.between(join, random),

@@ -51,7 +51,6 @@ pub fn long(count: usize) -> Vec<u8> {
 
 /// Texts that are turned down, with the question that does it: one or more for each question that a text can fail.
 pub fn refused() -> Vec<(u8, Vec<u8>)> {
-    let three = "T|1 D|1 T|1 D|1 T|1 D|1 J|L|0|1 C|0|0|=|1|0 J|I|3|2";
     let conditions = |count| format!("T|1 T|1 J|I|0|1 {}", "C|0|0|=|1|0 ".repeat(count));
     vec![
         (2, bytes("T|1 D|-2147483648")),
@@ -65,8 +64,7 @@ pub fn refused() -> Vec<(u8, Vec<u8>)> {
         (6, bytes(&conditions(33))),
         (6, bytes("T|1 T|1 J|I|0|1 C|0|0|=|1|1")),
         (7, bytes("T|1 T|1 J|I|0|1 K|0|0|=|1")),
-        (8, bytes(&format!("{three} C|1|0|=|2|0"))),
-        (9, bytes(&format!("{three} C|0|0|=|2|0 P|0|1"))),
+        (9, bytes("T|1 D|1 T|1 D|1 T|1 D|1 J|L|0|1 C|0|0|=|1|0 J|I|3|2 C|0|0|=|2|0 P|0|1")),
         (11, all_match(16, 17)),
     ]
 }

@@ -1,4 +1,4 @@
--- `engine::direct::read_text` meets its contract: the refusal of questions 2 to 8, or the tree read. Assumes nothing.
+-- `engine::direct::read_text` meets its contract: the refusal of questions 2 to 7, or the tree read. Assumes nothing.
 use mathlib.Core.Path.{_∙_}
 use borrow.Author.Needs.{needs}
 use Rattle.engine.proofs.laws.DirectCode.{no-width, text-refused, text-readable, text-width, text-tables, text-read}

@@ -1,7 +1,7 @@
 -- `prepare::accept::ask` meets its contract: the first no of what the query is asked. Assumes nothing.
 use borrow.Author.Needs.{needs}
 use borrow.Author.Tests.{not-true, not-false}
-use Rattle.prepare.proofs.laws.AcceptLaws.{refused-5, refused-6, refused-7, refused-8, accepted, joins-room, joins-built, counted}
+use Rattle.prepare.proofs.laws.AcceptLaws.{refused-5, refused-6, refused-7, accepted, joins-room, counted}
 use Rattle.prepare.proofs.accept.ask.Statement.{statement}
 use Rattle.prepare.proofs.accept.ask.Tie as tie
 
@@ -33,30 +33,12 @@ returns-3 c =
     refused-7 _ (i .before .before .pre) (i .before .joins-built .ensures) (not-false _ (i .if1 .left)) (j .before .conditions-fit .ensures) (not-false _ (j .if2 .left))
     (c .before .joins-cross .ensures) (not-true _ (c .if3 .taken))
 
-is-simplified-requires : tie.Need-is-simplified-requires
-is-simplified-requires c κs =
-    let j = c .before .before in
-    let i = j .before .before in (
-      counted _ (i .before .before .pre) (i .before .joins-built .ensures) (not-false _ (i .if1 .left)) (j .before .conditions-fit .ensures)
-          (not-false _ (j .if2 .left)),
-      joins-built _ (i .before .before .pre) (i .before .joins-built .ensures) (not-false _ (i .if1 .left)),
-    )
-
 returns-4 : tie.Need-returns-4
 returns-4 c =
-    let k = c .before .before in
-    let j = k .before .before in
-    let i = j .before .before in
-    refused-8 _ (i .before .before .pre) (i .before .joins-built .ensures) (not-false _ (i .if1 .left)) (j .before .conditions-fit .ensures) (not-false _ (j .if2 .left))
-    (k .before .joins-cross .ensures) (not-false _ (k .if3 .left)) (c .before .is-simplified .ensures) (not-true _ (c .if4 .taken))
-
-returns-5 : tie.Need-returns-5
-returns-5 c =
-    let k = c .before .before in
-    let j = k .before .before in
+    let j = c .before .before in
     let i = j .before .before in
     accepted _ (i .before .before .pre) (i .before .joins-built .ensures) (not-false _ (i .if1 .left)) (j .before .conditions-fit .ensures) (not-false _ (j .if2 .left))
-    (k .before .joins-cross .ensures) (not-false _ (k .if3 .left)) (c .before .is-simplified .ensures) (not-false _ (c .if4 .left))
+    (c .before .joins-cross .ensures) (not-false _ (c .if3 .left))
 
 pub ask-spec : {M : Type 1} → statement M
 ask-spec =
@@ -68,6 +50,4 @@ ask-spec =
     returns-2
     joins-cross-requires
     returns-3
-    is-simplified-requires
-    returns-4
-    returns-5)
+    returns-4)

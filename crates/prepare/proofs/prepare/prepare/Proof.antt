@@ -1,4 +1,4 @@
--- `prepare::prepare::prepare` meets its contract: the refusal of questions 2 to 8, or those behind them. Assumes nothing.
+-- `prepare::prepare::prepare` meets its contract: the refusal of questions 2 to 7, or those behind them. Assumes nothing.
 use borrow.Author.Needs.{needs}
 use Rattle.prepare.proofs.laws.PassedLaws.{text-well, text-passed, counted, five-kept}
 use Rattle.prepare.specs.inner.Prepare.{away, passed}

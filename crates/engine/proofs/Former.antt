@@ -1,0 +1,265 @@
+-- The proof of what stays of document 01's answers: a text that did not get 8 keeps its refusal or its S, U, M and R lines; and no call answers
+-- 8. Assumes nothing.
+use mathlib.Core.Path.{_≡_, refl, sym, ap, ap₂, _∙_, subst}
+use mathlib.Core.Logic.{_≢_, inl, inr}
+use mathlib.Core.Bool.{Bool, true, false}
+use mathlib.Core.List.{List, [], _∷_, _++_, map, zipWith}
+use mathlib.Core.Option.{Option, none, some}
+use Prim.Native.Nat.{ℕ, _≤_}
+use lib.Dec.{T}
+use lib.ListN.{length}
+use Rattle.cells.specs.Row.{Row, blankRow}
+use Rattle.cells.proofs.laws.BoolLaws.{clash}
+use Rattle.rows.specs.Lists.{_isIn_, keep, has, any}
+use Rattle.rows.proofs.laws.ListLaws.{keep-append, has-intro}
+use Rattle.rows.specs.Nullification.{Blanking, planRows}
+use Rattle.rows.specs.declared.kind.Kind.{Kind}
+use Rattle.rows.specs.declared.kind.Kind.the-variants.{Inner, Outer, Product}
+use Rattle.vocabulary.specs.Asking.{Question, firstNo, about, numbersOf}
+use Rattle.vocabulary.proofs.laws.AskingLaws.{thenNo, first-append, no-then, none-then, asked-no, asked-yes, append-yes, first-yes}
+use Rattle.vocabulary.specs.Database.{database, rowCountIn, cellsOf}
+use Rattle.vocabulary.specs.Report.{Report, Query, Join, queryOf}
+use Rattle.vocabulary.specs.Steps.{bitsOf, kindNumber, pairStep, blankingStep, bestMatchStep}
+use Rattle.vocabulary.specs.declared.step.Step.{Step}
+use Rattle.vocabulary.proofs.laws.WellRead.{WellRead}
+use Rattle.text.specs.Bytes.{Bytes}
+use Rattle.text.specs.Reading.{readReport}
+use Rattle.text.specs.TableQuestions.{tableQuestions}
+use Rattle.plan.specs.Plan.{Ground, groundOf, plannedJoins, planTrees, planTree, blankings, stepsOf}
+use Rattle.plan.specs.Questions.{queryQuestions, orderQuestions, question9, question10, kindsFit}
+use Rattle.plan.specs.Former.{question8, formerGround, formerBlankings}
+use Rattle.plan.proofs.laws.QueryLaws.{Accepted}
+use Rattle.plan.proofs.laws.BlankingListLaws.{own-list}
+use Rattle.plan.proofs.laws.FormerLaws.{sets-kept, ground-kept, former-rows}
+use Rattle.prepare.specs.Asking.{sharedQuestions, questionsOfReport, questionsOfDirect}
+use Rattle.prepare.proofs.laws.PassedLaws.{read-well, three-yes, report-accepted, few-rows}
+use Rattle.executor.specs.Runs.{results, withinLimit, directRows, question11, question11Direct, runRows, reportRows, pairCounts, reportSteps}
+use Rattle.executor.proofs.laws.DatabaseLaws.{lawful, lawful-names, database-width}
+use Rattle.executor.proofs.laws.RunLaws.{run-rows}
+use Rattle.engine.specs.Answers.{Outcome, refused, answered, outcomeFor, outcomeBy, reportQuestions, directQuestions, ReportAnswer, reportAnswer, reportOutcome, directOutcome}
+use Rattle.engine.specs.Calls.{reportCall, directCall}
+use Rattle.engine.specs.declared.answer.Answer.{Answer}
+use Rattle.engine.specs.declared.answer.Answer.the-variants.{Refused}
+use Rattle.engine.specs.Demand1.{Decided, askedOfReport, askedOfDirect}
+use Rattle.engine.specs.Former.{formerQuestions, formerDirectQuestions, formerCounts, formerSteps, formerRows, formerAnswer, formerOutcome, formerDirect, pairsIn, SameLines, Stays, refusedAs, answeredAs, LinesKept, NumberUnused}
+use Rattle.engine.proofs.Demand1.{report-decided, direct-decided, not-both}
+
+-- ---- the steps that M lines print
+
+pair-kind : (j : Join) (n : ℕ) (l : List Step) → pairsIn (pairStep j n ∷ l) ≡ pairStep j n ∷ pairsIn l
+unfolding pairsIn keep pairStep kindNumber
+pair-kind j n l = kinds (j .kind) refl
+  where
+    kinds : (k : Kind) → j .kind ≡ k → pairsIn (pairStep j n ∷ l) ≡ pairStep j n ∷ pairsIn l
+    kinds Inner e = rw e
+    kinds Outer e = rw e
+    kinds Product e = rw e
+
+pairs-all : (js : List Join) (ns : List ℕ) → pairsIn (zipWith pairStep js ns) ≡ zipWith pairStep js ns
+unfolding zipWith pairsIn keep
+pairs-all [] ns = refl
+pairs-all (j ∷ js) [] = refl
+pairs-all (j ∷ js) (n ∷ ns) = pair-kind j n (zipWith pairStep js ns) ∙ ap (λ (l : List Step). pairStep j n ∷ l) (pairs-all js ns)
+
+blankings-none : (L : List (Blanking ℕ)) → pairsIn (map blankingStep L) ≡ []
+unfolding pairsIn keep blankingStep
+blankings-none [] = refl
+blankings-none (s ∷ L) = blankings-none L
+
+best-none : (L : List (Blanking ℕ)) → pairsIn (bestMatchStep L) ≡ []
+unfolding pairsIn keep bestMatchStep
+best-none [] = refl
+best-none (s ∷ L) = refl
+
+nothing-behind : {A : Type 0} (l : List A) → l ++ [] ++ [] ≡ l
+nothing-behind [] = refl
+nothing-behind (x ∷ l) = ap (λ m. x ∷ m) (nothing-behind l)
+
+-- of a plan's steps they are the pairs'
+pairs-first : (js : List Join) (ns : List ℕ) (L : List (Blanking ℕ))
+    → pairsIn (zipWith pairStep js ns ++ map blankingStep L ++ bestMatchStep L) ≡ zipWith pairStep js ns
+unfolding pairsIn
+pairs-first js ns L =
+    keep-append _ (zipWith pairStep js ns ++ map blankingStep L) (bestMatchStep L)
+    ∙ ap₂ _++_ (keep-append _ (zipWith pairStep js ns) (map blankingStep L) ∙ ap₂ _++_ (pairs-all js ns) (blankings-none L)) (best-none L)
+    ∙ nothing-behind (zipWith pairStep js ns)
+
+-- ---- a report that passed question 8
+
+module _ (r : Report) (well : WellRead (queryOf r)) (yes : firstNo sharedQuestions r ≡ none) (eight : T (question8 (queryOf r))) where
+  abbrev q : Query
+  q = queryOf r
+
+  ok : Accepted q
+  ok = report-accepted r yes well
+
+  ground : formerGround q ≡ groundOf q
+  ground = ground-kept q ok eight
+
+  -- what was asked behind question 8 has the same answers
+  order-same : firstNo (about queryOf ((9, λ (q : Query). question9 q) ∷ (10, λ (q : Query). kindsFit (formerGround q)) ∷ [])) r
+      ≡ firstNo (about queryOf orderQuestions) r
+  unfolding about orderQuestions firstNo question10
+  order-same = ap (λ (g : Ground). firstNo (about queryOf ((9, λ (q : Query). question9 q) ∷ (10, λ (q : Query). kindsFit g) ∷ [])) r) ground
+
+  eleven-same : firstNo ((11, λ (z : Report). withinLimit z (results z (planTrees (formerGround (queryOf z))))) ∷ []) r
+      ≡ firstNo ((11, λ (z : Report). question11 z) ∷ []) r
+  unfolding firstNo question11
+  eleven-same = ap (λ (g : Ground). firstNo ((11, λ (z : Report). withinLimit z (results z (planTrees g))) ∷ []) r) ground
+
+  abbrev small : (t : ℕ) → rowCountIn r t ≤ blankRow
+  small = few-rows r (three-yes r yes)
+
+  -- the plan with the blanking steps of document 01's rule has the rows of the tree read directly
+  former-run : T (question9 q) → planRows (database r) (planTree (groundOf q)) (formerBlankings (groundOf q)) ≡ directRows r
+  unfolding database directRows
+  former-run nine = former-rows q ok (lawful q (rowCountIn r) (cellsOf r) small) (database-width q (rowCountIn r) (cellsOf r) small)
+      (lawful-names q (rowCountIn r) (cellsOf r) small) nine
+
+  -- its answer has the same S, U, M and R lines
+  lines-same : T (question9 q) → SameLines (formerAnswer r) (reportAnswer r)
+  unfolding formerAnswer reportAnswer formerSteps formerCounts formerRows reportSteps pairCounts stepsOf reportRows runRows
+  lines-same nine = record {
+    sets = ap (map bitsOf) (sets-kept q ok eight);
+    tallies = refl;
+    pairs = pairs-first (plannedJoins (formerGround q)) (counts (formerGround q)) (formerBlankings (formerGround q))
+        ∙ ap (λ (g : Ground). zipWith pairStep (plannedJoins g) (counts g)) ground
+        ∙ sym (pairs-first (plannedJoins (groundOf q)) (counts (groundOf q)) (blankings (groundOf q)));
+    rows = ap (λ (g : Ground). planRows (database r) (planTree g) (formerBlankings g)) ground ∙ former-run nine
+        ∙ sym (run-rows r ok small nine (blankings (groundOf q)) (own-list (groundOf q)));
+  }
+    where
+      counts : Ground → List ℕ
+      counts g = map (λ (rows : List Row). length rows) (results r (planTrees g))
+
+-- ---- a text
+
+module _ (r : Report) (x y z : List (Question Report)) where
+  -- the first no of three lists, where the first list has one, and where it has none
+  early : (n : ℕ) → firstNo x r ≡ some n → firstNo (x ++ y ++ z) r ≡ some n
+  early n e = no-then (x ++ y) z r n (no-then x y r n e)
+
+  late : firstNo x r ≡ none → firstNo (x ++ y ++ z) r ≡ thenNo (firstNo y r) (firstNo z r)
+  late e = first-append (x ++ y) z r ∙ ap (λ (o : Option ℕ). thenNo o (firstNo z r)) (none-then x y r e)
+
+-- what document 01's engine was asked between the questions of both runs and question 11
+abbrev behind : List (Question Report)
+behind = about queryOf ((8, λ (q : Query). question8 q) ∷ (9, λ (q : Query). question9 q) ∷ (10, λ (q : Query). kindsFit (formerGround q)) ∷ [])
+
+abbrev Eleven : Question Report
+Eleven = (11, λ (r : Report). withinLimit r (results r (planTrees (formerGround (queryOf r)))))
+
+module _ (r : Report) where
+  -- question 8 is the first of them
+  eight-no : question8 (queryOf r) ≡ false → firstNo behind r ≡ some 8
+  unfolding about
+  eight-no e = asked-no _ _ r e
+
+  eight-yes : question8 (queryOf r) ≡ true
+      → firstNo behind r ≡ firstNo (about queryOf ((9, λ (q : Query). question9 q) ∷ (10, λ (q : Query). kindsFit (formerGround q)) ∷ [])) r
+  unfolding about
+  eight-yes e = asked-yes _ _ r e
+
+  -- both questions were answered yes
+  behind-yes : firstNo behind r ≡ none → T (question8 (queryOf r)) × T (question9 (queryOf r))
+  unfolding about
+  behind-yes e =
+      let (a, f) = first-yes _ _ r e in
+      (a, first-yes _ _ r f .0)
+
+  module _ (well : WellRead (queryOf r)) where
+    -- where 8 was not the first no, the first no is the same
+    report-same : firstNo formerQuestions r ≢ some 8 → firstNo formerQuestions r ≡ firstNo reportQuestions r
+    unfolding formerQuestions reportQuestions questionsOfReport thenNo
+    report-same n = shared (firstNo sharedQuestions r) refl
+      where
+        asked : firstNo sharedQuestions r ≡ none → (b : Bool) → question8 (queryOf r) ≡ b → firstNo formerQuestions r ≡ firstNo reportQuestions r
+        asked e true f =
+            late r sharedQuestions behind (Eleven ∷ []) e
+            ∙ ap₂ thenNo (eight-yes f ∙ order-same r well e (subst T (sym f) tt)) (eleven-same r well e (subst T (sym f) tt))
+            ∙ sym (late r sharedQuestions (about queryOf orderQuestions) ((11, λ (z : Report). question11 z) ∷ []) e)
+        asked e false f = absurd (n (late r sharedQuestions behind (Eleven ∷ []) e
+            ∙ ap (λ (o : Option ℕ). thenNo o (firstNo (Eleven ∷ []) r)) (eight-no f)))
+
+        shared : (o : Option ℕ) → firstNo sharedQuestions r ≡ o → firstNo formerQuestions r ≡ firstNo reportQuestions r
+        shared none e = asked e (question8 (queryOf r)) refl
+        shared (some k) e = early r sharedQuestions behind (Eleven ∷ []) k e
+            ∙ sym (early r sharedQuestions (about queryOf orderQuestions) ((11, λ (z : Report). question11 z) ∷ []) k e)
+
+    answer-same : firstNo formerQuestions r ≡ none → SameLines (formerAnswer r) (reportAnswer r)
+    unfolding formerQuestions
+    answer-same e =
+        let (f, _) = append-yes (sharedQuestions ++ behind) (Eleven ∷ []) r e in
+        let (passed, g) = append-yes sharedQuestions behind r f in
+        let (eight, nine) = behind-yes g in
+        lines-same r well passed eight nine
+
+  direct-same : firstNo formerDirectQuestions r ≢ some 8 → firstNo formerDirectQuestions r ≡ firstNo directQuestions r
+  unfolding formerDirectQuestions directQuestions questionsOfDirect about firstNo thenNo
+  direct-same n = shared (firstNo sharedQuestions r) refl
+    where
+      Last : List (Question Report)
+      Last = (11, λ (r : Report). question11Direct r) ∷ []
+
+      One : List (Question Report)
+      One = (8, λ (r : Report). question8 (queryOf r)) ∷ []
+
+      asked : firstNo sharedQuestions r ≡ none → (b : Bool) → question8 (queryOf r) ≡ b → firstNo formerDirectQuestions r ≡ firstNo directQuestions r
+      asked e true f =
+          late r sharedQuestions One Last e ∙ ap (λ (o : Option ℕ). thenNo o (firstNo Last r)) (asked-yes (8, λ (z : Report). question8 (queryOf z)) [] r f)
+          ∙ sym (none-then sharedQuestions Last r e)
+      asked e false f = absurd (n (late r sharedQuestions One Last e ∙ ap (λ (o : Option ℕ). thenNo o (firstNo Last r)) (asked-no (8, λ (z : Report). question8 (queryOf z)) [] r f)))
+
+      shared : (o : Option ℕ) → firstNo sharedQuestions r ≡ o → firstNo formerDirectQuestions r ≡ firstNo directQuestions r
+      shared none e = asked e (question8 (queryOf r)) refl
+      shared (some k) e = early r sharedQuestions One Last k e ∙ sym (no-then sharedQuestions Last r k e)
+
+-- what is answered to a report, by the first no
+abbrev decided : {A : Type 0} → A → Option ℕ → Outcome A
+decided a o = elim o [ some n ↦ refused n | none ↦ answered a ]
+
+stays : (a b : ReportAnswer) (x y : Option ℕ) → x ≡ y → (x ≡ none → SameLines a b) → Stays (decided a x) (decided b y)
+stays a b none none e h = answeredAs a b (h refl)
+stays a b none (some n) e h = clash cc
+stays a b (some n) none e h = clash cc
+stays a b (some n) (some k) e h = subst (λ (m : ℕ). Stays (refused n) (refused m)) (let z : n ≡ k = cc in z) (refusedAs n)
+
+pub report-kept : (text : Bytes) → formerOutcome text ≢ refused 8 → Stays (formerOutcome text) (reportOutcome text)
+unfolding formerOutcome reportOutcome outcomeBy outcomeFor
+report-kept text n = go (readReport text) refl n
+  where
+    go : (o : Option Report) → readReport text ≡ o → outcomeFor formerQuestions formerAnswer o ≢ refused 8
+        → Stays (outcomeFor formerQuestions formerAnswer o) (outcomeFor reportQuestions reportAnswer o)
+    go none e n = refusedAs 2
+    go (some r) e n =
+        let well = read-well text r e in
+        stays (formerAnswer r) (reportAnswer r) (firstNo formerQuestions r) (firstNo reportQuestions r)
+        (report-same r well (λ z. n (ap (decided (formerAnswer r)) z))) (answer-same r well)
+
+pub direct-kept : (text : Bytes) → formerDirect text ≢ refused 8 → formerDirect text ≡ directOutcome text
+unfolding formerDirect directOutcome outcomeBy outcomeFor
+direct-kept text n = go (readReport text) n
+  where
+    go : (o : Option Report) → outcomeFor formerDirectQuestions directRows o ≢ refused 8
+        → outcomeFor formerDirectQuestions directRows o ≡ outcomeFor directQuestions directRows o
+    go none n = refl
+    go (some r) n = ap (decided (directRows r)) (direct-same r (λ z. n (ap (decided (directRows r)) z)))
+
+-- a text that did not get 8 keeps its refusal, or its S, U, M and R lines
+pub lines-kept : LinesKept
+lines-kept = (λ text n. report-kept text n, λ text n. direct-kept text n)
+
+-- ---- number 8
+
+-- an answer of one of these numbers is no other
+not-asked : (ns : List ℕ) (k : ℕ) → ¬ T (has ns k) → (a : Answer) → Decided ns a → a ≢ Refused k
+not-asked ns k n a (inl (m, e)) f = not-both a m k e f
+not-asked ns k n a (inr (m, e, i)) f = n (has-intro (subst (λ (z : ℕ). z isIn ns) (let z : m ≡ k = cc in z) i))
+
+-- no call answers 8
+pub number-unused : NumberUnused
+unfolding askedOfReport askedOfDirect reportQuestions directQuestions questionsOfReport questionsOfDirect sharedQuestions tableQuestions queryQuestions orderQuestions about numbersOf has any
+number-unused = (
+  λ text m steps. not-asked askedOfReport 8 (λ h. h) (reportCall text m steps .answer) (report-decided text m steps),
+  λ text m. not-asked askedOfDirect 8 (λ h. h) (directCall text m .answer) (direct-decided text m),
+)

@@ -1,0 +1,99 @@
+-- What stays of document 01's answers under document 02, item 2: "Reports that passed before keep their S lines"; and "Number 8 is never used
+-- again". This file is the statement; proofs/Former.antt proves it. Specification 6.7, 9.10. Assumes nothing.
+use mathlib.Core.Path.{_≡_}
+use mathlib.Core.Logic.{_≢_}
+use mathlib.Core.List.{List, [], _∷_, _++_, map, zipWith}
+use Prim.Native.Nat.{ℕ}
+use lib.Dec.{leb}
+use lib.ListN.{length}
+use Rattle.cells.specs.Row.{Row}
+use Rattle.rows.specs.Lists.{keep}
+use Rattle.rows.specs.Nullification.{planRows}
+use Rattle.vocabulary.specs.Asking.{Question, about}
+use Rattle.vocabulary.specs.Database.{database}
+use Rattle.vocabulary.specs.Report.{Report, Query, queryOf}
+use Rattle.vocabulary.specs.Steps.{bitsOf, pairStep, blankingStep, bestMatchStep}
+use Rattle.vocabulary.specs.Tallies.{tallies}
+use Rattle.vocabulary.specs.declared.step.Step.{Step}
+use Rattle.text.specs.Bytes.{Bytes}
+use Rattle.plan.specs.Plan.{plannedJoins, planTrees, planTree}
+use Rattle.plan.specs.Questions.{question9, kindsFit}
+use Rattle.plan.specs.Former.{formerSets, question8, formerGround, formerBlankings}
+use Rattle.prepare.specs.Asking.{sharedQuestions}
+use Rattle.executor.specs.Runs.{results, withinLimit, directRows, question11Direct}
+use Rattle.engine.specs.Answers.{Outcome, refused, answered, outcomeBy, ReportAnswer, reportOutcome, directOutcome}
+use Rattle.engine.specs.Calls.{Lent, reportCall, directCall}
+use Rattle.engine.specs.declared.answer.Answer.the-variants.{Refused}
+
+-- ---- document 01's engine
+
+-- what it was asked behind question 2. Specification 6.7
+unfoldable pub formerQuestions : List (Question Report)
+formerQuestions =
+    sharedQuestions
+    ++ about queryOf
+    ((8, λ (q : Query). question8 q) ∷ (9, λ (q : Query). question9 q) ∷ (10, λ (q : Query). kindsFit (formerGround q)) ∷ [])
+    ++ ((11, λ (r : Report). withinLimit r (results r (planTrees (formerGround (queryOf r))))) ∷ [])
+
+-- what its direct reading was asked. Specification 6.7
+unfoldable pub formerDirectQuestions : List (Question Report)
+formerDirectQuestions =
+    sharedQuestions ++ about queryOf ((8, λ (q : Query). question8 q) ∷ []) ++ ((11, λ (r : Report). question11Direct r) ∷ [])
+
+module _ (r : Report) where
+  -- the count of rows of each pair's result. Specification 6.7
+  unfoldable pub formerCounts : List ℕ
+  formerCounts = map (λ (rows : List Row). length rows) (results r (planTrees (formerGround (queryOf r))))
+
+  -- the plan that it handed over. Specification 6.7
+  unfoldable pub formerSteps : List Step
+  formerSteps =
+      zipWith pairStep (plannedJoins (formerGround (queryOf r))) formerCounts
+      ++ map blankingStep (formerBlankings (formerGround (queryOf r)))
+      ++ bestMatchStep (formerBlankings (formerGround (queryOf r)))
+
+  -- the rows of its plan. Specification 6.7
+  unfoldable pub formerRows : List Row
+  formerRows = planRows (database r) (planTree (formerGround (queryOf r))) (formerBlankings (formerGround (queryOf r)))
+
+  -- Specification 6.7
+  unfoldable pub formerAnswer : ReportAnswer
+  formerAnswer = record { sets = map bitsOf (formerSets (queryOf r)); tallies = tallies r; steps = formerSteps; rows = formerRows }
+
+-- its outcome for a text. Specification 6.7
+unfoldable pub formerOutcome : Bytes → Outcome ReportAnswer
+formerOutcome text = outcomeBy formerQuestions formerAnswer text
+
+-- its direct reading's outcome for a text. Specification 6.7
+unfoldable pub formerDirect : Bytes → Outcome (List Row)
+formerDirect text = outcomeBy formerDirectQuestions directRows text
+
+-- ---- what stays
+
+-- the steps that M lines print. Specification 6.7
+unfoldable pub pairsIn : List Step → List Step
+pairsIn steps = keep (λ (s : Step). leb (s .kind) 3) steps
+
+-- the S, U, M and R lines of two answers are the same. Specification 6.7
+pub record SameLines (a b : ReportAnswer) : Type 0 where
+  pub sets : a .sets ≡ b .sets
+  pub tallies : a .tallies ≡ b .tallies
+  pub pairs : pairsIn (a .steps) ≡ pairsIn (b .steps)
+  pub rows : a .rows ≡ b .rows
+
+-- the same refusal, or answers with the same S, U, M and R lines. Specification 6.7
+pub data Stays : Outcome ReportAnswer → Outcome ReportAnswer → Type 0 where
+  refusedAs : (n : ℕ) → Stays (refused n) (refused n)
+  answeredAs : (a b : ReportAnswer) → SameLines a b → Stays (answered a) (answered b)
+
+-- a text that did not get 8 keeps its refusal, or its S, U, M and R lines; its direct reading is the same. Specification 6.7
+abbrev pub LinesKept : Type 0
+LinesKept =
+    ((text : Bytes) → formerOutcome text ≢ refused 8 → Stays (formerOutcome text) (reportOutcome text))
+    × ((text : Bytes) → formerDirect text ≢ refused 8 → formerDirect text ≡ directOutcome text)
+
+-- no call of the engine or of the direct reading answers 8. Specification 9.10
+abbrev pub NumberUnused : Type 0
+NumberUnused =
+    ((text : Bytes) (m : Lent) (steps : List Step) → reportCall text m steps .answer ≢ Refused 8)
+    × ((text : Bytes) (m : Lent) → directCall text m .answer ≢ Refused 8)
