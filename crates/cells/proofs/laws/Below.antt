@@ -31,7 +31,20 @@ beq-eq true false t = absurd t
 beq-eq false true t = absurd t
 beq-eq false false t = refl
 
--- two functions of a row and a column agree on a table whose rows count from 1
+-- two functions of a row and a column agree on a table
+pub agree-all :
+    (rows columns : ℕ)
+    (f g : ℕ → ℕ → Bool)
+    → T (below (λ i. below (λ k. Bool·beq (f i k) (g i k)) columns) rows)
+    → (o k : ℕ)
+    → o < rows
+    → k < columns
+    → f o k ≡ g o k
+agree-all rows columns f g t o k h l =
+    beq-eq (f o k) (g o k)
+    (at-below (λ k. Bool·beq (f o k) (g o k)) columns (at-below (λ i. below (λ k. Bool·beq (f i k) (g i k)) columns) rows t o h) k l)
+
+-- the same on a table whose rows count from 1
 pub agree :
     (rows columns : ℕ)
     (f g : ℕ → ℕ → Bool)
@@ -43,6 +56,4 @@ pub agree :
     → f o k ≡ g o k
 agree rows columns f g t zero k p h l = absurd (not-suc-le-zero p)
 agree rows columns f g t (suc i) k p h l =
-    beq-eq (f (suc i) k) (g (suc i) k)
-    (at-below (λ k. Bool·beq (f (suc i) k) (g (suc i) k)) columns
-    (at-below (λ i. below (λ k. Bool·beq (f (suc i) k) (g (suc i) k)) columns) rows t i (le-of-suc-le-suc h)) k l)
+    agree-all rows columns (λ i k. f (suc i) k) (λ i k. g (suc i) k) t i k (le-of-suc-le-suc h) l

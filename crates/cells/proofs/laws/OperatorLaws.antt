@@ -1,21 +1,21 @@
 -- What holds of all operators, over their codes: what they allow, blank cells, complements and mirrors. Assumes nothing.
 use mathlib.Core.Path.{_≡_, refl, _∙_, ap, sym, subst}
-use mathlib.Core.Logic.{_⊎_, ⊎-elim}
+use mathlib.Core.Logic.{_⊎_, ⊎-elim, inr}
 use mathlib.Core.Bool.{Bool, true, false, not, _||_, or-comm, _&&_, and-false, and-comm}
 use mathlib.Core.List.{List, [], _∷_}
-use Prim.Native.Nat.{ℕ, _<_, _-_, _≤_}
+use Prim.Native.Nat.{ℕ, _<_, _-_, _≤_, _^_}
 use native.Mathlib.Omega.{arith}
 use lib.Dec.{ltb, leb, eqb, lit<, T}
 use lib.IntN.{ℤ, pos, negsuc}
 use lib.ListN.{getD, List·getD-map, List·getD-eq-default}
 use lib.Signed.{ltZ, leZ}
-use borrow.Author.Tests.{eqb-true, ltb-true, ltb-false, le-leb, lt-leb, eq-eqb, ne-eqb, le-ltb}
+use borrow.Author.Tests.{eqb-true, ltb-true, ltb-false, leb-true, leb-false, le-leb, lt-leb, eq-eqb, ne-eqb, le-ltb}
 use Rattle.cells.specs.Choice.{if_then_else_}
 use Rattle.cells.proofs.laws.BoolLaws.{is-false}
-use Rattle.cells.proofs.laws.Below.{and-left, and-right, agree}
+use Rattle.cells.proofs.laws.Below.{and-left, and-right, agree, agree-all}
 use Rattle.cells.specs.Cell.{eqZ, isBlank, blankCell}
 use Rattle.cells.specs.Operator.{never, operators, says, columnOf, orderingOf, truthOf, isTrue, isFalse, isUnknown, holds, mirrorOf}
-use Rattle.cells.specs.inner.Orderings.{allowed}
+use Rattle.cells.specs.inner.Orderings.{allowed, countOf, contains}
 use Rattle.cells.specs.declared.operator.Ordering.{Ordering}
 use Rattle.cells.specs.declared.operator.Ordering.the-variants.{Less, Equal, Greater}
 use Rattle.cells.specs.declared.operator.Truth.the-variants.{True, False, Unknown}
@@ -113,8 +113,34 @@ says-outside op x y h = ⊎-elim (λ l. none op l) (λ l. rw (List·getD-eq-defa
     none : (n : ℕ) → n < 1 → getD operators n never x y ≡ false
     none n l = let e : n ≡ 0 = omega arith in rw e
 
+-- computed for the codes 0 to 6 and the three orderings, by their columns: a code contains 2 to the power of a column exactly if the operator
+-- is true of the column's number and 1
+column-contains : (op k : ℕ) → op ≤ 6 → k < 3 → contains op (2 ^ k) ≡ says op (pos k) (pos 1)
+unfolding contains says operators never eqZ
+column-contains op k h l = agree-all 7 3 (λ o k. contains o (2 ^ k)) (λ o k. says o (pos k) (pos 1)) tt op k (omega arith) l
+
+-- what an ordering counts is 2 to the power of its column
+pub count-power : (o : Ordering) → countOf o ≡ 2 ^ columnOf o
+unfolding columnOf countOf
+count-power Less = refl
+count-power Equal = refl
+count-power Greater = refl
+
+-- "an operator allows an outcome when its code contains that count" (document 02, item 3); a code past the last operator's allows none
+pub allowed-contains : (op : ℕ) (o : Ordering) → allowed op o ≡ (leb op 6 && contains op (countOf o))
+unfolding allowed
+allowed-contains op o = go (leb op 6) refl
+  where
+    go : (t : Bool) → leb op 6 ≡ t → says op (pos (columnOf o)) (pos 1) ≡ (t && contains op (countOf o))
+    go true e = sym (ap (contains op) (count-power o) ∙ column-contains op (columnOf o) (leb-true op 6 e) (column-small o))
+    go false e = says-outside op (pos (columnOf o)) (pos 1) (inr (leb-false op 6 e))
+
+-- the same of the outcome of two numbers, for all six operators
+pub says-contains : (op : ℕ) (x y : ℤ) → op ≤ 6 → says op x y ≡ contains op (countOf (orderingOf x y))
+says-contains op x y h = says-allowed op x y ∙ allowed-contains op (orderingOf x y) ∙ rw (le-leb op 6 h)
+
 -- a condition by its tests
-holds-tests : (op : ℕ) (x y : ℤ) → holds op x y ≡ (not (isBlank x) && not (isBlank y) && says op x y)
+pub holds-tests : (op : ℕ) (x y : ℤ) → holds op x y ≡ (not (isBlank x) && not (isBlank y) && says op x y)
 unfolding holds truthOf isTrue
 holds-tests op x y = by (isBlank x) (isBlank y) (says op x y)
   where
