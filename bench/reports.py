@@ -78,6 +78,11 @@ def reports():
     gaps = "".join(table(2, [[k, r.choice(["-"] + 9 * [r.randrange(300)])] for [k] in keys(r, 256)]) for _ in range(2))
     operators = (["<", "=", "<=", ">", "<>", ">="] * 6)[:31]
     yield "conditions-32", gaps + line("J", "L", 0, 1) + same_key(1)[0] + "".join(line("C", 0, 1, o, 1, 1) for o in operators)
+    # 31 K lines of all operators, true of nearly all rows, so that each is counted and asked of each row; some cells are blank
+    levels = table(3, [[k, r.choice(["-"] + 15 * [r.randrange(1000)]), 7] for [k] in keys(r, 256)])
+    asked = ([(1, "<", 1000), (2, "=", 7), (1, "<=", 999), (1, ">", -1), (1, "<>", 1000), (1, ">=", 0)] * 6)[:31]
+    yield "constants-31", table(1, keys(r, 256)) + levels + line("J", "L", 0, 1) + same_key(1)[0] \
+        + "".join(line("K", 1, column, o, number) for column, o, number in asked)
 
 
 def main():

@@ -6,6 +6,7 @@ mod faults;
 mod limits;
 mod reports;
 
+pub use reports::OPERATORS;
 use reports::Report;
 
 /// A report with every form of line, damaged in every place.

@@ -11,7 +11,7 @@
 //! Exit status 1: a difference, whose text is written to target/differ.in, or a refusal other than 8 and 10 or an outcome
 //! of conditions that did not occur. Number 8 is not used, and question 10 turns down no text.
 
-use hashjoin::generate::{Random, each_fixed_text, each_random_text};
+use hashjoin::generate::{OPERATORS, Random, each_fixed_text, each_random_text};
 use hashjoin::lent::{LEAST, Lent};
 use hashjoin::{Answer, CONDITIONS, ROWS, Rows, STEPS, Step, Tally, write_direct, write_report};
 use rumbethola::lent as library;
@@ -27,6 +27,8 @@ const BATCH: usize = 1000;
 /// Where the text of a difference is written.
 const FOUND: &str = "target/differ.in";
 const QUESTIONS: usize = 11;
+/// How often each operator must come out in each way; a damaged line has another operator now and then.
+const FEWEST: u64 = 16;
 
 /// The least lengths: cells, work, result, the answer of the report, that of the direct reading, the output.
 const LEASTS: [usize; 6] = [LEAST[0], LEAST[1], LEAST[2], library::ANSWER, library::DIRECT_ANSWER, library::OUT];
@@ -139,13 +141,29 @@ struct Outcomes {
     no_pair: u64,
     mixed: u64,
     all_pairs: [u64; 3],
+    /// In C and in K lines of texts made by chance, for each operator: conditions that are true, false and unknown of
+    /// some pairs.
+    operators: [[[u64; 3]; OPERATORS.len()]; 2],
+}
+
+/// The lines of a valid text that are conditions: whether it is a K line, and which operator it has.
+fn conditions(text: &[u8]) -> impl Iterator<Item = (usize, usize)> {
+    let lines = text.split(|&byte| byte == b'\n').filter(|line| matches!(line.first(), Some(b'C' | b'K')));
+    lines.map(|line| {
+        let written = line.split(|&byte| byte == b'\t').nth(3);
+        let operator = OPERATORS.iter().position(|name| written == Some(name.as_bytes()));
+        (usize::from(line[0] == b'K'), operator.expect("an answered text has no other operator"))
+    })
 }
 
 impl Outcomes {
-    fn count(&mut self, rows: &Rows) {
+    fn count(&mut self, text: &[u8], rows: &Rows) {
         self.full += u64::from(rows.conditions == CONDITIONS);
-        for tally in &rows.tallies[..rows.conditions] {
+        for (tally, (constant, operator)) in rows.tallies[..rows.conditions].iter().zip(conditions(text)) {
             let counts = three(tally);
+            for (some, count) in self.operators[constant][operator].iter_mut().zip(counts) {
+                *some += u64::from(count > 0);
+            }
             self.conditions += 1;
             self.no_pair += u64::from(counts.iter().all(|&count| count == 0));
             self.mixed += u64::from(counts.iter().all(|&count| count > 0));
@@ -162,10 +180,19 @@ impl Outcomes {
              of 65536 pairs all true {holds}, all false {fails}, all unknown {unknown}",
             self.conditions, self.full, self.no_pair, self.mixed
         );
+        for (letter, operators) in ["C", "K"].iter().zip(&self.operators) {
+            let each: Vec<String> = OPERATORS
+                .iter()
+                .zip(operators)
+                .map(|(name, [holds, fails, unknown])| format!("{name} {holds} {fails} {unknown}"))
+                .collect();
+            println!("{letter} lines made by chance true, false, unknown of some pairs: {}", each.join(", "));
+        }
     }
 
     fn lacks(&self) -> bool {
-        self.full == 0 || self.no_pair == 0 || self.mixed == 0 || self.all_pairs.contains(&0)
+        let rare = self.operators.as_flattened().as_flattened().iter().any(|&count| count < FEWEST);
+        self.full == 0 || self.no_pair == 0 || self.mixed == 0 || self.all_pairs.contains(&0) || rare
     }
 }
 
@@ -225,7 +252,7 @@ impl Differ {
         let status = library::report(text, cells, work, result, &mut found.answer[..lengths[3]]);
         self.report.count(status);
         if let (Ok(rows), 0) = (&answer, status) {
-            self.outcomes.count(rows);
+            self.outcomes.count(text, rows);
         }
         if lengths[3] < library::ANSWER {
             same("report", text, lengths, status == library::NO_ROOM, &self.start, found);
@@ -376,6 +403,8 @@ fn main() {
         each_lengths(&mut |lengths| differ.compare(text, lengths));
     }
 
+    // The fixed texts have every operator, whatever those made by chance have.
+    differ.outcomes.operators = Default::default();
     let mut seed = options.seed;
     while chance < options.count && options.time.is_none_or(|time| began.elapsed() < time) {
         let batch = BATCH.min(options.count - chance);
