@@ -24,6 +24,7 @@ use Rattle.vocabulary.specs.declared.step.Step.{Step}
 use Rattle.vocabulary.proofs.laws.WellRead.{WellRead}
 use Rattle.text.specs.Bytes.{Bytes}
 use Rattle.text.specs.Reading.{readReport}
+use Rattle.vocabulary.specs.KeyColumns.{keyQuestions}
 use Rattle.text.specs.TableQuestions.{tableQuestions}
 use Rattle.plan.specs.Plan.{Ground, groundOf, plannedJoins, planTrees, planTree, blankings, stepsOf}
 use Rattle.plan.specs.Questions.{queryQuestions, orderQuestions, question9, question10, kindsFit}
@@ -258,7 +259,7 @@ not-asked ns k n a (inr (m, e, i)) f = n (has-intro (subst (λ (z : ℕ). z isIn
 
 -- no call answers 8
 pub number-unused : NumberUnused
-unfolding askedOfReport askedOfDirect reportQuestions directQuestions questionsOfReport questionsOfDirect sharedQuestions tableQuestions queryQuestions orderQuestions about numbersOf has any
+unfolding askedOfReport askedOfDirect reportQuestions directQuestions questionsOfReport questionsOfDirect sharedQuestions tableQuestions keyQuestions queryQuestions orderQuestions about numbersOf has any
 number-unused = (
   λ text m steps. not-asked askedOfReport 8 (λ h. h) (reportCall text m steps .answer) (report-decided text m steps),
   λ text m. not-asked askedOfDirect 8 (λ h. h) (directCall text m .answer) (direct-decided text m),

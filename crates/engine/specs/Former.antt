@@ -25,7 +25,7 @@ use Rattle.engine.specs.Answers.{Outcome, refused, answered, outcomeBy, 
 use Rattle.engine.specs.Calls.{Lent, reportCall, directCall}
 use Rattle.engine.specs.declared.answer.Answer.the-variants.{Refused}
 
--- ---- document 01's engine
+-- ---- document 01's engine, with the U lines and the key columns of document 02
 
 -- what it was asked behind question 2. Specification 6.7
 unfoldable pub formerQuestions : List (Question Report)

@@ -4,6 +4,7 @@ pub mod Demand1
 pub mod Demand2
 pub mod Demand3
 pub mod Former
+pub mod KeyColumns
 pub mod Programs
 pub mod Trials
 pub mod inner

@@ -42,7 +42,7 @@ pub struct Found {
     pub tables: usize,
 }
 
-// Questions 2 to 7 and 11 of a text, and its rows. The cell buffer and the work buffer are left as they come.
+// Questions 2 to 7, 11 and 12 of a text, and its rows. The cell buffer and the work buffer are left as they come.
 fn read_text(text: &[u8], cells: &mut [i32], work: &mut [u16], result: &mut [u16]) -> Found
     requires { ⌜ (cellRoom ≤ length (now cells)) × (workRoom ≤ length (now work)) × (resultRoom ≤ length (now result)) ⌝ }
     ensures { λ r. ⌜ Gave (directOutcome (now (text .entry))) (now (result .entry)) (now (result .exit)) (r .answer)

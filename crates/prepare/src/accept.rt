@@ -1,7 +1,8 @@
-// A text through questions 2 to 7, in order: the first that is answered no, or the query and the cells.
+// A text through questions 2 to 4, 12 and 5 to 7, in this order: the first that is answered no, or the query and the cells.
 use questions::built;
 use questions::conditions;
 use questions::crossing;
+use questions::key_columns;
 use reader::read;
 use vocabulary::query::StoredQuery;
 ghost use Prim.Native.Nat.{_≤_};
@@ -37,21 +38,31 @@ fn ask(q: StoredQuery) -> AcceptOutcome
     AcceptOutcome::Accepted
 }
 
-// Questions 2 to 7 of a text. The cell buffer begins with the text's cells where the text passes questions 2 to 4.
+// Questions 2 to 7 and 12 of a text. The cell buffer begins with the text's cells where the text passes questions 2 to 4.
 pub fn accept(text: &[u8], cells: &mut [i32]) -> AcceptAnswer
     ensures { λ r. ⌜ Accepts (now (text .entry)) (now (cells .entry)) (now (cells .exit)) r ⌝ }
 {
     let a = read::read(text, cells);
     let outcome = a.outcome;
     let query = a.query;
+    let keys = a.key_columns;
+    let layout = query.layout;
     match outcome {
         read::ReadOutcome::Refused(n) => AcceptAnswer {
             outcome: AcceptOutcome::Refused(n),
             query: query,
         },
-        read::ReadOutcome::Accepted => AcceptAnswer {
-            outcome: ask(query),
-            query: query,
-        },
+        read::ReadOutcome::Accepted => {
+            if !key_columns::columns_hold(cells, layout, keys, query.table_count) {
+                return AcceptAnswer {
+                    outcome: AcceptOutcome::Refused(12),
+                    query: query,
+                };
+            }
+            AcceptAnswer {
+                outcome: ask(query),
+                query: query,
+            }
+        }
     }
 }

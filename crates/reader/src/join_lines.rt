@@ -82,7 +82,7 @@ pub(crate) fn slot(count: u16, x: LineRead) -> usize
     ensures { λ r. ⌜ r ≡ conditionPlace count x ⌝ }
 {
     match x {
-        LineRead::Table(n) => CONDITIONS,
+        LineRead::Table(n, k) => CONDITIONS,
         LineRead::Row(n) => CONDITIONS,
         LineRead::Join(k, l, r) => CONDITIONS,
         LineRead::Condition(c) => count as usize,
@@ -96,7 +96,7 @@ pub(crate) fn condition_in(x: LineRead) -> Condition
     ensures { λ r. ⌜ r ≡ conditionIn x ⌝ }
 {
     match x {
-        LineRead::Table(n) => nothing(),
+        LineRead::Table(n, k) => nothing(),
         LineRead::Row(n) => nothing(),
         LineRead::Join(k, l, r) => nothing(),
         LineRead::Condition(c) => c,

@@ -46,7 +46,7 @@ pub fn next_place(p: Place, x: LineRead) -> Next
     ensures { λ r. ⌜ nextIn r ≡ nextRead p x ⌝ }
 {
     match x {
-        LineRead::Table(n) => opens(p, TABLES),
+        LineRead::Table(n, k) => opens(p, TABLES),
         LineRead::Row(n) => follows(p, TABLES),
         LineRead::Join(k, l, r) => opens(p, JOINS),
         LineRead::Condition(c) => follows(p, JOINS),

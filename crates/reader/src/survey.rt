@@ -91,7 +91,7 @@ fn with_table(t: Tables, x: LineRead) -> Tables
     ensures { λ r. ⌜ r ≡ tablesTold t x ⌝ }
 {
     match x {
-        LineRead::Table(n) => tables::after_table(t, n),
+        LineRead::Table(n, k) => tables::after_table(t, n, k),
         LineRead::Row(n) => tables::after_row(t, n),
         LineRead::Join(k, l, r) => t,
         LineRead::Condition(c) => t,
@@ -106,7 +106,7 @@ fn with_join(j: Joins, x: LineRead) -> Joins
     ensures { λ r. ⌜ r ≡ joinsTold j x ⌝ }
 {
     match x {
-        LineRead::Table(n) => j,
+        LineRead::Table(n, k) => j,
         LineRead::Row(n) => j,
         LineRead::Join(k, l, r) => join_lines::after_join(j, k, l, r),
         LineRead::Condition(c) => join_lines::after_condition(j),
@@ -121,7 +121,7 @@ fn with_pair(q: Pairs, x: LineRead) -> Pairs
     ensures { λ r. ⌜ r ≡ pairsTold q x ⌝ }
 {
     match x {
-        LineRead::Table(n) => q,
+        LineRead::Table(n, k) => q,
         LineRead::Row(n) => q,
         LineRead::Join(k, l, r) => q,
         LineRead::Condition(c) => q,

@@ -8,13 +8,16 @@ ghost use mathlib.Core.Path.{_≡_};
 ghost use Prim.Native.Nat.{_+_, _-_, _<_};
 ghost use mathlib.Core.Bool.{_&&_};
 ghost use lib.Dec.{eqb};
+ghost use lib.ListN.{set};
 ghost use Rattle.reader.specs.inner.State.{noTables, tableFitsSoFar, closedRows, openedTable, afterTable, cellsAfter, afterRow, withTableCounts};
 
-// The layout has the tables before the latest in full; the latest one's rows are put there when it ends. `fits` is question 3's
-// answer on the tables' columns and on the rows of those before the latest, `even` question 4's on the rows so far.
+// The layout has the tables before the latest in full; the latest one's rows are put there when it ends. A key column is its number and 1,
+// or 0 where there is none. `fits` is question 3's answer on the tables' columns and on the rows of those before the latest, `even`
+// question 4's on the rows so far.
 pub struct Tables {
     pub count: u16,
     pub layout: Layout,
+    pub key_columns: [u32; TABLES],
     pub columns: u16,
     pub rows: u16,
     pub cells: usize,
@@ -33,6 +36,7 @@ pub fn no_tables() -> Tables
             rows: [0u16; TABLES],
             columns: [0u16; TABLES],
         },
+        key_columns: [0u32; TABLES],
         columns: 0,
         rows: 0,
         cells: 0,
@@ -94,10 +98,23 @@ pub fn opened_table(layout: Layout, count: u16, offset: usize, columns: u16) -> 
     next
 }
 
+// The key columns with that of a table that is opened.
+pub fn opened_key(keys: [u32; TABLES], count: u16, key: u32) -> [u32; TABLES]
+    ensures { λ r. ⌜ r ≡ set keys count key ⌝ }
+{
+    let t = count as usize;
+    if TABLES <= t {
+        return keys;
+    }
+    let mut next = keys;
+    next[t] = key;
+    next
+}
+
 // A T line more.
-pub(crate) fn after_table(s: Tables, columns: u16) -> Tables
+pub(crate) fn after_table(s: Tables, columns: u16, key: u32) -> Tables
     requires { ⌜ s .count < 65535 ⌝ }
-    ensures { λ r. ⌜ r ≡ afterTable s columns ⌝ }
+    ensures { λ r. ⌜ r ≡ afterTable s columns key ⌝ }
 {
     let count = s.count;
     let rows = s.rows;
@@ -105,9 +122,12 @@ pub(crate) fn after_table(s: Tables, columns: u16) -> Tables
     let before = s.layout;
     let closed = closed_rows(before, count, rows);
     let layout = opened_table(closed, count, s.cells, columns);
+    let keys = s.key_columns;
+    let key_columns = opened_key(keys, count, key);
     Tables {
         count: count + 1,
         layout: layout,
+        key_columns: key_columns,
         columns: columns,
         rows: 0,
         cells: s.cells,

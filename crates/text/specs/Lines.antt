@@ -1,4 +1,5 @@
--- The form of each kind of line: document 01, "Report text". A form reads the fields of a line from the left, each once. Specification 2.7.
+-- The form of each kind of line: document 01, "Report text", and document 02, item 4. A form reads the fields of a line from the left,
+-- each once. Specification 2.7, 2.15.
 -- Assumes nothing.
 use mathlib.Core.List.{List, [], _∷_}
 use mathlib.Core.Option.{Option, none, some}
@@ -23,9 +24,9 @@ kindOf innerJoin = Inner
 kindOf leftOuterJoin = Outer
 
 -- a line and what it says, by the part of the text that it belongs to: "All T and D lines come first, then each J with its C and K
--- lines, then P lines". T has its count of columns, D its cells. Specification 2.7, 2.8
+-- lines, then P lines". T has its count of columns and its key column, if it names one; D has its cells. Specification 2.7, 2.8, 2.15
 pub data TableLine : Type 0 where
-  tableLine : ℕ → TableLine
+  tableLine : ℕ → Option ℕ → TableLine
   rowLine : List ℤ → TableLine
 
 -- J has its kind and sides, C or K its condition. Specification 2.7, 2.8
@@ -72,6 +73,11 @@ unfoldable pub end : {A : Type 0} → A → Form A
 end a [] = some (a, [])
 end a (x ∷ fs) = none
 
+-- what a form says, where the line does not end before it. Specification 2.15
+unfoldable pub optional : {A : Type 0} → Form A → Form (Option A)
+optional f [] = some (none, [])
+optional f (x ∷ fs) = elim (f (x ∷ fs)) [ none ↦ none | some r ↦ some (some (r .0), r .1) ]
+
 -- every field read the same way, or nothing
 unfoldable pub both : {A : Type 0} → Option A → Option (List A) → Option (List A)
 both none r = none
@@ -107,12 +113,13 @@ cellFields (x ∷ fs) = elim (readAll cell (x ∷ fs)) [ none ↦ none | some zs
 
 -- ---- lines
 
--- "`T` columns: opens a table". Specification 2.7
+-- "`T` columns: opens a table"; "A T line may have one more field, the number of a key column". Specification 2.7, 2.15
 unfoldable pub formT : Form TableLine
 formT = do
   word "T"
   n ← numberField
-  end (tableLine n)
+  k ← optional numberField
+  end (tableLine n k)
 
 -- "`D` cells, at least one: one row of the latest table". Specification 2.7
 unfoldable pub formD : Form TableLine

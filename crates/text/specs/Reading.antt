@@ -34,7 +34,7 @@ follows p n = if eqb (p .part) n then some (record { part = n }) else none
 
 -- the place of a line behind one at this place, if it may stand there: D needs a T before it, C and K need a J. Specification 2.8
 unfoldable pub next : Place → Line → Option Place
-next p (tablesPart (tableLine n)) = opens p 1
+next p (tablesPart (tableLine n k)) = opens p 1
 next p (tablesPart (rowLine zs)) = follows p 1
 next p (joinsPart (joinLine k a b)) = opens p 2
 next p (joinsPart (conditionLine c)) = follows p 2
@@ -50,13 +50,13 @@ placed p (x ∷ ls) = elim (next p x) [ none ↦ false | some q ↦ placed q ls 
 -- the D lines before the first T line. Specification 2.9
 unfoldable pub firstRows : List TableLine → List (List ℤ)
 firstRows [] = []
-firstRows (tableLine n ∷ ls) = []
+firstRows (tableLine n k ∷ ls) = []
 firstRows (rowLine zs ∷ ls) = zs ∷ firstRows ls
 
--- the tables: a T line opens a table, the D lines behind it are its rows. Specification 2.9
+-- the tables: a T line opens a table, the D lines behind it are its rows. Specification 2.9, 2.15
 unfoldable pub tablesOf : List TableLine → List Table
 tablesOf [] = []
-tablesOf (tableLine n ∷ ls) = record { columns = n; rows = firstRows ls } ∷ tablesOf ls
+tablesOf (tableLine n k ∷ ls) = record { columns = n; keyColumn = k; rows = firstRows ls } ∷ tablesOf ls
 tablesOf (rowLine zs ∷ ls) = tablesOf ls
 
 -- the numbers of the C and K lines before the first J line; "C and K lines share one count from 0", and i of them stand before these

@@ -8,9 +8,9 @@ ghost use mathlib.Core.Path.{_≡_};
 ghost use mathlib.Core.List.{[], _∷_};
 ghost use Rattle.text.specs.inner.Parts.{fieldsFrom};
 ghost use Rattle.text.specs.Numbers.{constant};
-ghost use Rattle.text.specs.Lines.{field, numberField, operatorField, kindField};
-ghost use Rattle.text.specs.inner.Fields.{operatorRead, pairField, storedKind};
-ghost use Rattle.text.specs.inner.FieldAnswers.{codeIn, numberAt, pairAt, operatorAt, kindAt, constantAt};
+ghost use Rattle.text.specs.Lines.{field, optional, numberField, operatorField, kindField};
+ghost use Rattle.text.specs.inner.Fields.{operatorRead, pairField, storedKind, storedKey};
+ghost use Rattle.text.specs.inner.FieldAnswers.{codeIn, numberAt, pairAt, operatorAt, kindAt, keyAt, constantAt};
 
 // The bytes of operators.
 const LESS: u8 = 60;
@@ -53,6 +53,12 @@ pub enum KindAt {
     Bad,
 }
 
+// The key column of a T line: its number and 1, or 0 where the line names none.
+pub enum KeyAt {
+    Value(u32, usize),
+    Bad,
+}
+
 // The constant of a K line.
 pub enum ConstantAt {
     Value(i32, usize),
@@ -85,6 +91,19 @@ pub fn pair_at(l: &[u8], at: usize) -> PairAt
         return PairAt::Bad;
     };
     PairAt::Value(a, b, next)
+}
+
+pub fn key_at(l: &[u8], at: usize) -> KeyAt
+    ensures { λ r. ⌜ keyAt (now (l .entry)) r ≡ storedKey (optional numberField (fieldsFrom (now (l .entry)) at)) ⌝ }
+{
+    if l.len() < at {
+        return KeyAt::Value(0, at);
+    }
+    let n = number_at(l, at);
+    let NumberAt::Value(column, next) = n else {
+        return KeyAt::Bad;
+    };
+    KeyAt::Value((column as u32) + 1, next)
 }
 
 // The operator that a byte is.

@@ -1,6 +1,7 @@
 // Lines of a report text, each read by its kind; a line is the bytes before its line feed.
 use crate::field;
 use crate::field::ConstantAt;
+use crate::field::KeyAt;
 use crate::field::KindAt;
 use crate::field::NumberAt;
 use crate::field::OperatorAt;
@@ -16,9 +17,9 @@ ghost use Rattle.text.specs.inner.Parts.{fieldsFrom};
 ghost use Rattle.text.specs.Lines.{tablesPart, joinsPart, orderPart, lineOf};
 ghost use Rattle.text.specs.inner.Forms.{lineRead, formRead, tableForm, rowForm, joinForm, columnForm, constantForm, orderForm};
 
-// What a line says: of a D line, how many cells it has.
+// What a line says: of a T line its key column as a number and 1, or 0; of a D line, how many cells it has.
 pub enum LineRead {
-    Table(u16),
+    Table(u16, u32),
     Row(usize),
     Join(Kind, u16, u16),
     Condition(Condition),
@@ -39,18 +40,22 @@ const CONSTANT: u8 = 75;
 
 const ORDER: u8 = 80;
 
-// T: columns.
+// T: columns, and the number of a key column where there is one.
 pub fn table_line(l: &[u8], at: usize) -> LineRead
     ensures { λ r. ⌜ r ≡ formRead tablesPart (tableForm (fieldsFrom (now (l .entry)) at)) ⌝ }
 {
     let n = field::number_at(l, at);
-    let NumberAt::Value(columns, next) = n else {
+    let NumberAt::Value(columns, after) = n else {
+        return LineRead::NoForm;
+    };
+    let k = field::key_at(l, after);
+    let KeyAt::Value(key, next) = k else {
         return LineRead::NoForm;
     };
     if next <= l.len() {
         return LineRead::NoForm;
     }
-    LineRead::Table(columns)
+    LineRead::Table(columns, key)
 }
 
 // D: cells, at least one.

@@ -2,6 +2,7 @@ pub mod Asking
 pub mod Bits
 pub mod Database
 pub mod Facts
+pub mod KeyColumns
 pub mod Nodes
 pub mod Report
 pub mod Steps

@@ -1,5 +1,6 @@
--- What a report says: document 01, "Report text". Specification 2.9, 2.10, 2.13. Assumes nothing.
+-- What a report says: document 01, "Report text". Specification 2.9, 2.10, 2.13, 2.15. Assumes nothing.
 use mathlib.Core.List.{List, map, flatMap, [], _∷_}
+use mathlib.Core.Option.{Option}
 use Prim.Native.Nat.{ℕ}
 use lib.IntN.{ℤ, pos}
 use lib.ListN.{length, getD}
@@ -9,9 +10,10 @@ use Rattle.cells.specs.declared.condition.Side.the-variants.{Constant}
 use Rattle.rows.specs.Lists.{range}
 use Rattle.rows.specs.declared.kind.Kind.{Kind}
 
--- a T line with its D lines: the count of columns, and the cells of each row. Specification 2.9
+-- a T line with its D lines: the count of columns, the key column if the line names one, and the cells of each row. Specification 2.9, 2.15
 pub record Table : Type 0 where
   pub columns : ℕ
+  pub keyColumn : Option ℕ
   pub rows : List (List ℤ)
 
 -- two nodes joined: a J line with the numbers of its C and K lines, or a pair of a plan with the conditions that it uses.

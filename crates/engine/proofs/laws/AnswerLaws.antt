@@ -1,21 +1,14 @@
--- The outcome for a text, by the first question that is answered no; and that no question has the number 0. Assumes nothing.
+-- The outcome for a text, by the first question that is answered no. Assumes nothing.
 use mathlib.Core.Path.{_≡_, ap, _∙_, refl}
 use mathlib.Core.List.{List, _++_}
 use mathlib.Core.Option.{Option, none, some}
-use Prim.Native.Nat.{ℕ, _<_}
-use native.Mathlib.Omega.{arith}
-use lib.Dec.{T, ltb}
-use mir.Facts.{ltb-yes}
+use Prim.Native.Nat.{ℕ}
 use Rattle.cells.proofs.laws.BoolLaws.{clash}
-use Rattle.rows.specs.Lists.{all}
-use Rattle.rows.proofs.laws.ListLaws.{all-elim}
-use Rattle.vocabulary.specs.Asking.{Question, firstNo, numbersOf, about}
-use Rattle.vocabulary.proofs.laws.AskingLaws.{no-then, no-number}
+use Rattle.vocabulary.specs.Asking.{Question, firstNo}
+use Rattle.vocabulary.proofs.laws.AskingLaws.{no-then}
 use Rattle.vocabulary.specs.Report.{Report}
-use Rattle.text.specs.TableQuestions.{tableQuestions}
 use Rattle.text.specs.Bytes.{Bytes}
 use Rattle.text.specs.Reading.{readReport}
-use Rattle.plan.specs.Questions.{queryQuestions}
 use Rattle.prepare.specs.Asking.{sharedQuestions}
 use Rattle.prepare.specs.inner.Accept.{refusal}
 use Rattle.engine.specs.Answers.{Outcome, refused, answered, outcomeFor, outcomeBy}
@@ -64,17 +57,3 @@ answered-report {A} qs answer bs a e = go (readReport bs) refl e
         → (r : Report) × (readReport bs ≡ some r) × (firstNo qs r ≡ none) × (answer r ≡ a)
     go none f h = clash cc
     go (some r) f h = yes r f (firstNo qs r) refl h
-
--- ---- the numbers of questions
-
--- no question has the number 0
-pub no-positive : {A : Type 0} (qs : List (Question A)) (a : A) (n : ℕ) → T (all (ltb 0) (numbersOf qs)) → firstNo qs a ≡ some n → 0 < n
-no-positive qs a n h e = ltb-yes (all-elim (ltb 0) (numbersOf qs) h n (no-number qs a n e))
-
-pub refusal-positive : (text : Bytes) (n : ℕ) → refusal text ≡ some n → 0 < n
-unfolding refusal sharedQuestions tableQuestions queryQuestions about numbersOf all
-refusal-positive text n e = go (readReport text) e
-  where
-    go : (o : Option Report) → _≡_ {A = Option ℕ} (elim o [ none ↦ some 2 | some r ↦ firstNo sharedQuestions r ]) (some n) → 0 < n
-    go none h = let k : _≡_ {A = ℕ} 2 n = cc in omega arith
-    go (some r) h = no-positive sharedQuestions r n tt h

@@ -13,11 +13,12 @@ use Rattle.vocabulary.specs.Nodes.{grown, tablesAt, tablesOfPair, nodesOf, join
 use Rattle.vocabulary.specs.Steps.{bitsOf, kindNumber, pairStep, blankingStep, bestMatchStep, zeroStep}
 use Rattle.vocabulary.specs.Bits.{hasBit}
 use Rattle.vocabulary.specs.Database.{databaseOf, tableAt, rowCountIn, cellsOf, database}
+use Rattle.vocabulary.specs.KeyColumns.{cellsOfColumn, allDiffer, areKey, keyHolds, question12, keyQuestions}
 use Rattle.vocabulary.specs.Tallies.{tallyOf, pairTruths, columnCells, sideCells, conditionTally, tallies}
 use Rattle.vocabulary.specs.Asking.{firstNo, about}
 use Rattle.text.specs.Bytes.{bytes, tab, lineFeed, sameBytes, cut, split, closed}
 use Rattle.text.specs.Numbers.{digit, decimal, valueOf, natural, small, positive, negative, number, ifMade, constant, cell}
-use Rattle.text.specs.Lines.{kindOf, field, oneOf, end, both, readAll, word, numberField, kindField, operatorField, cellFields, formT, formD, formJ, formC, formK, formP, firstOf, inPart, lineBy, lineOf, linesOf}
+use Rattle.text.specs.Lines.{kindOf, field, oneOf, end, both, readAll, word, numberField, kindField, operatorField, cellFields, formT, formD, formJ, formC, formK, formP, firstOf, inPart, lineBy, lineOf, linesOf, optional}
 use Rattle.text.specs.Reading.{beforeAll, opens, follows, next, placed, firstRows, tablesOf, firstConditions, joinsOf, conditionsOf, pairsOf, reportOf, ifPlaced, textLines, readReport}
 use Rattle.text.specs.LineParts.{also, picked, ofTables, ofJoins, ofOrder}
 use Rattle.text.specs.TableQuestions.{cellsInRows, cellsInTables, tableFits, question3, question4, tableQuestions}
@@ -33,7 +34,7 @@ use Rattle.engine.specs.Former.{formerCounts, formerSteps, formerRows, f
 use Rattle.engine.specs.Programs.{printReport, printDirect, reportProgram, directProgram}
 
 unfoldable pub computing : Unit {0}
-unfolding flatMap zipWith blankCell lowestCell highestCell cellOf eqZ isBlank columnOf orderingOf never operators says truthOf isTrue isFalse isUnknown holds blankRow cellIn sideIn truthIn trueIn sideNames namesOf ownCell cellsIn range all any keep count orElse distinct insert sort has single over merge same before ordered whollyBlank within dominated bestMatch tablesUnder outerProduct allTrue matches joined rowsOf nullify nullifyAll finished planRows queryOf tableCount tableNumbers conditionNumbers noCondition conditionAt namedBy joinPairs orderOr joinOrder grown tablesAt tablesOfPair nodesOf joinNodes orderNodes treeAt treeOf treesOf lastTree joinTrees joinTree setOf blanksLeft blanksRight taken isBlanked setAfter setsAfter setsBy emptySets blankingSets between crosses inEvery usable paired fitsKind usableAt allIn pairFits planned plannedJoins planTrees planTree pairSets appliedSets missing asks blankings bitsOf kindNumber pairStep blankingStep bestMatchStep zeroStep stepsOf lowerSides sidesOf noneTwice wellBuilt question5 noneOrBuilt question9 columnExists sideExists conditionFits question6 question7 kindsFit question10 bytes tab lineFeed sameBytes cut split closed digit decimal valueOf natural small positive negative number ifMade constant cell kindOf field oneOf end both readAll word numberField kindField operatorField cellFields formT formD formJ formC formK formP firstOf inPart lineBy lineOf linesOf beforeAll opens follows next placed also picked ofTables ofJoins ofOrder firstRows tablesOf firstConditions joinsOf conditionsOf pairsOf reportOf ifPlaced textLines readReport cellsInRows cellsInTables tableFits question3 question4 digitsOf printNumber printFields hasBit bitNumbers printEntry printSets printTally printTallies kindLetter printStep printRow printRefusal databaseOf tableAt rowCountIn cellsOf database tallyOf pairTruths columnCells sideCells conditionTally tallies results withinLimit directRows question11Direct runRows reportRows pairCounts reportSteps question11 firstNo about tableQuestions queryQuestions orderQuestions sharedQuestions questionsOfReport questionsOfDirect reportQuestions directQuestions outcomeFor outcomeBy reportAnswer reportOutcome directOutcome printReport printDirect reportProgram directProgram
+unfolding flatMap zipWith blankCell lowestCell highestCell cellOf eqZ isBlank columnOf orderingOf never operators says truthOf isTrue isFalse isUnknown holds blankRow cellIn sideIn truthIn trueIn sideNames namesOf ownCell cellsIn range all any keep count orElse distinct insert sort has single over merge same before ordered whollyBlank within dominated bestMatch tablesUnder outerProduct allTrue matches joined rowsOf nullify nullifyAll finished planRows queryOf tableCount tableNumbers conditionNumbers noCondition conditionAt namedBy joinPairs orderOr joinOrder grown tablesAt tablesOfPair nodesOf joinNodes orderNodes treeAt treeOf treesOf lastTree joinTrees joinTree setOf blanksLeft blanksRight taken isBlanked setAfter setsAfter setsBy emptySets blankingSets between crosses inEvery usable paired fitsKind usableAt allIn pairFits planned plannedJoins planTrees planTree pairSets appliedSets missing asks blankings bitsOf kindNumber pairStep blankingStep bestMatchStep zeroStep stepsOf lowerSides sidesOf noneTwice wellBuilt question5 noneOrBuilt question9 columnExists sideExists conditionFits question6 question7 kindsFit question10 bytes tab lineFeed sameBytes cut split closed digit decimal valueOf natural small positive negative number ifMade constant cell kindOf field optional oneOf end both readAll word numberField kindField operatorField cellFields formT formD formJ formC formK formP firstOf inPart lineBy lineOf linesOf beforeAll opens follows next placed also picked ofTables ofJoins ofOrder firstRows tablesOf firstConditions joinsOf conditionsOf pairsOf reportOf ifPlaced textLines readReport cellsInRows cellsInTables tableFits question3 question4 digitsOf printNumber printFields hasBit bitNumbers printEntry printSets printTally printTallies kindLetter printStep printRow printRefusal databaseOf tableAt rowCountIn cellsOf database tallyOf pairTruths columnCells sideCells conditionTally tallies results withinLimit directRows question11Direct runRows reportRows pairCounts reportSteps question11 firstNo about tableQuestions cellsOfColumn allDiffer areKey keyHolds question12 keyQuestions queryQuestions orderQuestions sharedQuestions questionsOfReport questionsOfDirect reportQuestions directQuestions outcomeFor outcomeBy reportAnswer reportOutcome directOutcome printReport printDirect reportProgram directProgram
 computing = tt
 
 -- and one that opens what document 02, item 2, replaced

@@ -15,7 +15,7 @@ use Rattle.text.specs.Bytes.{Bytes}
 use Rattle.prepare.specs.inner.Accept.{numberIn, KeptText, Accepts}
 use Rattle.prepare.specs.declared.accept.AcceptAnswer as Accept
 use Rattle.prepare.specs.declared.accept.AcceptOutcome.the-variants as O
-use Rattle.prepare.proofs.laws.PassedLaws.{text-passed, text-well}
+use Rattle.prepare.proofs.laws.AcceptLaws.{text-passed, text-well}
 use Rattle.joins.specs.inner.Work.{workspace}
 use Rattle.joins.specs.declared.join.Joined.{Joined}
 use Rattle.joins.specs.declared.join.Joined.the-variants as J
@@ -57,16 +57,16 @@ if-refused a n k e = sym (ap (λ (z : Answer). ifRows z n) e)
 -- ---- a text
 
 module _ {bs : Bytes} {before after : List ℤ} {x : Accept.AcceptAnswer} (h : Accepts bs before after x) where
-  pub text-refused : {w : List ℕ} {n : ℕ} → x .outcome ≡ O.Refused n → Gave (directOutcome bs) w w (Refused n)
+  pub text-refused : {w : List ℕ} {n : ℕ} → cellRoom ≤ length before → x .outcome ≡ O.Refused n → Gave (directOutcome bs) w w (Refused n)
   unfolding numberIn
-  text-refused {w} {n} e = direct-early bs n w (sym (h .answer) ∙ ap numberIn e)
+  text-refused {w} {n} room e = direct-early bs n w (sym (h .answer room) ∙ ap numberIn e)
 
   module _ (e : x .outcome ≡ O.Accepted) where
     abbrev kept : KeptText bs before after (x .query)
     kept = h .kept e
 
     pub text-readable : Readable (x .query)
-    text-readable = readable (kept .stands) (text-well h e) (text-passed h e)
+    text-readable = readable (kept .stands) (text-well h e) (h .asked e)
 
     tables-read : x .query .«table_count» ≡ tableCountOf bs
     unfolding tableCountOf tableCount queryOf
@@ -86,7 +86,7 @@ module _ {bs : Bytes} {before after : List ℤ} {x : Accept.AcceptAnswer} (h : A
     pub text-read : {w w′ : List ℕ} {a : Answer} → cellRoom ≤ length before
         → TreeRead (workspace after (x .query .layout) (x .query .conditions)) (x .query) w w′ a → Gave (directOutcome bs) w w′ a
     text-read {w} {w′} {a} room t =
-        direct-passed bs (kept .read) (kept .stands) (text-passed h e) w w′ a
+        direct-passed bs (kept .read) (kept .stands) (text-passed h e room) w w′ a
         (subst (λ (cells : List ℤ). TreeRead (workspace cells (x .query .layout) (x .query .conditions)) (x .query) w w′ a) (kept .buffer room) t)
 
 -- ---- a call

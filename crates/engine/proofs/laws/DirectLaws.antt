@@ -22,7 +22,7 @@ use Rattle.text.specs.Bytes.{Bytes}
 use Rattle.text.specs.Reading.{readReport}
 use Rattle.prepare.specs.Asking.{questionsOfDirect, sharedQuestions}
 use Rattle.prepare.specs.inner.Accept.{refusal}
-use Rattle.prepare.proofs.laws.PassedLaws.{read-well}
+use Rattle.prepare.proofs.laws.PassedLaws.{read-well, shared-passed}
 use Rattle.joins.specs.inner.Work.{workspace}
 use Rattle.joins.specs.declared.join.Joined.{Joined}
 use Rattle.joins.specs.declared.join.Joined.the-variants as J
@@ -105,4 +105,4 @@ module _ (bs : Bytes) {s : StoredQuery} {cells : List ℤ} {r : Report} (read : 
     direct-passed t =
         handed (t .joined) (t .answer)
         (subst (λ (n : ℕ). Handed (readOf W (joinTree q)) found n w w′ (t .joined)) (k .table-count)
-        (subst (λ (E : Tree ℕ). Handed (readOf W E) (ordered (rowsOf W E)) (s .«table_count») w w′ (t .joined)) (tree-kept k well yes) (t .handed)))
+        (subst (λ (E : Tree ℕ). Handed (readOf W E) (ordered (rowsOf W E)) (s .«table_count») w w′ (t .joined)) (tree-kept k well (shared-passed r yes)) (t .handed)))

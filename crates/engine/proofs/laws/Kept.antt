@@ -27,14 +27,15 @@ use Rattle.vocabulary.specs.declared.query.StoredQuery.{StoredQuery}
 use Rattle.plan.specs.Questions.{orderQuestions, question9}
 use Rattle.plan.proofs.laws.NodeWords.{kept-at}
 use Rattle.plan.proofs.laws.QueryLaws.{query-matched, query-built}
+use Rattle.index.specs.inner.Columns.{rowCounts}
 use Rattle.questions.proofs.laws.Kept.{room-of}
 use Rattle.questions.proofs.laws.Whole.{whole-trees, whole-nine, whole-query}
-use Rattle.prepare.specs.Asking.{sharedQuestions}
-use Rattle.prepare.proofs.laws.PassedLaws.{three-yes, rows-limit, counted, few-joins, ok}
+use Rattle.prepare.specs.inner.Accept.{Passed}
+use Rattle.prepare.proofs.laws.PassedLaws.{tables-rows, counted, few-joins, ok}
 use Rattle.executor.specs.inner.Reading.{Readable, joinAt}
 use Rattle.executor.proofs.laws.StepRows.{lower-sides}
 
-module _ {s : StoredQuery} {cells : List ℤ} {r : Report} (k : Stands s cells r) (well : WellRead (queryOf r)) (yes : firstNo sharedQuestions r ≡ none) where
+module _ {s : StoredQuery} {cells : List ℤ} {r : Report} (k : Stands s cells r) (well : WellRead (queryOf r)) (yes : Passed r) where
   abbrev q : Query
   q = queryOf r
 
@@ -55,14 +56,14 @@ module _ {s : StoredQuery} {cells : List ℤ} {r : Report} (k : Stands s cells r
       (lower-sides (query-matched q (ok k well yes)) n lower i (joinIn noJoin) (omega (arith, k .join-count, h))))
 
   pub readable : Readable s
-  unfolding tableCount joinAt
+  unfolding tableCount joinAt rowCounts
   readable = record {
     tables = k .few;
     width = ap length (k .columns) ∙ sym (k .table-count);
     joins = few-joins k well yes;
     room = omega (arith, (few-joins k well yes), k .join-room);
     conditions = counted k well yes .conditions;
-    rows = λ t h. rw (k .rows t) (rows-limit r (three-yes r yes) t);
+    rows = λ t h. tables-rows k (yes .0) t;
     left = λ i h. sides i h .0;
     right = λ i h. sides i h .1;
     ranges = λ i h. k .ranges (few-joins k well yes) i h noJoin;

@@ -30,7 +30,7 @@ use Rattle.plan.proofs.laws.BuiltLaws.{from-whole}
 use Rattle.plan.proofs.laws.PlanLaws.{plan-matched, order-built}
 use Rattle.plan.proofs.laws.QueryLaws.{Accepted, query-matched, query-built}
 use Rattle.prepare.specs.Asking.{sharedQuestions}
-use Rattle.prepare.proofs.laws.PassedLaws.{three-yes, report-accepted, rows-limit, few-rows, counted}
+use Rattle.prepare.proofs.laws.PassedLaws.{three-yes, report-accepted, rows-limit, few-rows, shared-passed, counted}
 use Rattle.joins.specs.inner.Work.{workspace}
 use Rattle.executor.proofs.laws.DatabaseLaws.{lawful}
 use Rattle.executor.proofs.laws.LimitLaws.{withinTree, whole-results, results-whole}
@@ -56,7 +56,7 @@ module _ {s : StoredQuery} {cells : List ℤ} {r : Report} (k : Stands s cells r
 
   -- a tree's joins have as many rows in work space as in the report's tables
   rows-count : (E : Tree ℕ) → Shaped laws E → length (rowsOf W E) ≡ length (rowsOf (database r) E)
-  rows-count E h = ap length (rows-seen k (counted k well yes .conditions) small E h) ∙ length-map (rowsOf (database r) E) (pad _)
+  rows-count E h = ap length (rows-seen k (counted k well (shared-passed r yes) .conditions) small E h) ∙ length-map (rowsOf (database r) E) (pad _)
 
   within-seen : (E : Tree ℕ) → Shaped laws E → withinTree W E ≡ withinTree (database r) E
   unfolding withinTree rowsOf
@@ -73,7 +73,7 @@ module _ {s : StoredQuery} {cells : List ℤ} {r : Report} (k : Stands s cells r
   pub within-eleven : withinTree W (joinTree q) ≡ question11Direct r
   unfolding question11Direct withinLimit results joinTree joinTrees
   within-eleven =
-      within-seen (joinTree q) (query-tree k (counted k well yes .conditions) small ok)
+      within-seen (joinTree q) (query-tree k (counted k well (shared-passed r yes) .conditions) small ok)
       ∙ same-test (withinTree (database r) (joinTree q)) (all (λ (rows : List Row). leb (length rows) mostRows) (results r (joinTrees q)))
       (λ h. whole-results (database r) few-each q (query-matched q ok) (query-built q ok) h)
       (λ h. results-whole (database r) few-each q (query-matched q ok) (query-built q ok) h)
@@ -82,12 +82,12 @@ module _ {s : StoredQuery} {cells : List ℤ} {r : Report} (k : Stands s cells r
   pub direct-count : length (ordered (rowsOf W (joinTree q))) ≡ length (directRows r)
   unfolding directRows finished
   direct-count =
-      count-seen k (counted k well yes .conditions) small (joinTree q) (query-tree k (counted k well yes .conditions) small ok) []
+      count-seen k (counted k well (shared-passed r yes) .conditions) small (joinTree q) (query-tree k (counted k well (shared-passed r yes) .conditions) small ok) []
 
   pub direct-numbers : flatMap (take (tableCount q)) (ordered (rowsOf W (joinTree q))) ≡ flatMap (λ (row : Row). row) (directRows r)
   unfolding directRows finished
   direct-numbers =
-      numbers-seen k (counted k well yes .conditions) small (joinTree q) (query-tree k (counted k well yes .conditions) small ok) []
+      numbers-seen k (counted k well (shared-passed r yes) .conditions) small (joinTree q) (query-tree k (counted k well (shared-passed r yes) .conditions) small ok) []
 
   -- ---- the plan
 
@@ -104,7 +104,7 @@ module _ {s : StoredQuery} {cells : List ℤ} {r : Report} (k : Stands s cells r
         eqb-yes (and-yes (eqb (suc n) (tableCount q)) (lowerSides (tableCount q) (joinOrder q)) a .0)
 
     shaped : Shaped laws (planTree (groundOf q))
-    shaped = plan-tree k (counted k well yes .conditions) small ok nine
+    shaped = plan-tree k (counted k well (shared-passed r yes) .conditions) small ok nine
 
     node-shaped : (i : ℕ) → i < length (planTrees (groundOf q)) → Shaped laws (treeAt (planTrees (groundOf q)) i)
     unfolding planTree planTrees treeOf
@@ -117,8 +117,8 @@ module _ {s : StoredQuery} {cells : List ℤ} {r : Report} (k : Stands s cells r
     -- the rows that are handed over
     pub report-count : length (finished W (blankings (groundOf q)) (rowsOf W (planTree (groundOf q)))) ≡ length (reportRows r)
     unfolding reportRows runRows planRows
-    report-count = count-seen k (counted k well yes .conditions) small (planTree (groundOf q)) shaped (blankings (groundOf q))
+    report-count = count-seen k (counted k well (shared-passed r yes) .conditions) small (planTree (groundOf q)) shaped (blankings (groundOf q))
 
     pub report-numbers : flatMap (take (tableCount q)) (finished W (blankings (groundOf q)) (rowsOf W (planTree (groundOf q)))) ≡ flatMap (λ (row : Row). row) (reportRows r)
     unfolding reportRows runRows planRows
-    report-numbers = numbers-seen k (counted k well yes .conditions) small (planTree (groundOf q)) shaped (blankings (groundOf q))
+    report-numbers = numbers-seen k (counted k well (shared-passed r yes) .conditions) small (planTree (groundOf q)) shaped (blankings (groundOf q))

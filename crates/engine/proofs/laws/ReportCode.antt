@@ -13,8 +13,8 @@ use mir.Facts.{and-yes, leb-yes}
 use Rattle.cells.specs.Limits.{cellRoom, workRoom, resultRoom, stepListRoom, mostSteps}
 use Rattle.rows.specs.Lists.{all}
 use Rattle.vocabulary.specs.Asking.{firstNo, numbersOf}
-use Rattle.vocabulary.specs.Report.{Report, queryOf}
-use Rattle.vocabulary.specs.inner.Stands.{Stands}
+use Rattle.vocabulary.specs.Report.{queryOf}
+use Rattle.vocabulary.proofs.laws.AskingLaws.{no-positive}
 use Rattle.vocabulary.specs.Steps.{zeroStep}
 use Rattle.vocabulary.specs.declared.query.StoredQuery.{StoredQuery}
 use Rattle.vocabulary.specs.Facts.{noFacts}
@@ -28,17 +28,15 @@ use Rattle.prepare.specs.declared.accept.AcceptAnswer as Accept
 use Rattle.prepare.specs.declared.accept.AcceptOutcome.the-variants as O
 use Rattle.prepare.specs.inner.Prepared.{turnedAway, readyFor, readyBy}
 use Rattle.prepare.specs.declared.prepared.Prepared.{Prepared}
-use Rattle.prepare.proofs.laws.PassedLaws.{text-well, text-passed, five-kept, three-yes, rows-limit}
+use Rattle.prepare.proofs.laws.AcceptLaws.{text-well, text-passed}
+use Rattle.prepare.proofs.laws.PassedLaws.{five-kept, tables-rows}
 use Rattle.prepare.specs.inner.Prepare.{Prepares, away, passed}
-use Rattle.prepare.specs.Asking.{sharedQuestions}
-use Rattle.counts.specs.inner.Columns.{rowCounts, FewRows}
 use Rattle.step_list.specs.inner.Laid.{laid}
 use Rattle.step_list.proofs.laws.LaidLaws.{laid-out}
 use Rattle.step_list.specs.inner.Over.{Runs}
 use Rattle.step_list.specs.inner.State.{startState}
 use Rattle.step_list.specs.declared.state.State.{State}
 use Rattle.engine.specs.Answers.{reportOutcome, Outcome, refused, answered, ReportAnswer}
-use Rattle.engine.proofs.laws.AnswerLaws.{refusal-positive, no-positive}
 use Rattle.engine.proofs.laws.Bounds.{report-bounded}
 use Rattle.engine.specs.Calls.{Lent, ReportCall, laidOut, question1Direct, question1, cleared, reportAfter, reportCall}
 use Rattle.engine.proofs.laws.DirectCode.{text-readable}
@@ -67,17 +65,13 @@ unfolding turnedAway
 away-number p q n z = ap (λ (y : Prepared). y .number) z
 
 -- a number that turns the text down before the order is asked about
-early : {bs : Bytes} {before after : List ℤ} {x : Accept.AcceptAnswer} {n : ℕ} → Accepts bs before after x → x .outcome ≡ O.Refused n → refusal bs ≡ some n
+early : {bs : Bytes} {before after : List ℤ} {x : Accept.AcceptAnswer} {n : ℕ} → Accepts bs before after x → cellRoom ≤ length before
+    → x .outcome ≡ O.Refused n → refusal bs ≡ some n
 unfolding numberIn
-early h e = sym (h .answer) ∙ ap numberIn e
-
--- no table has more rows than a table may have
-few-each : {s : StoredQuery} {cells : List ℤ} {r : Report} → Stands s cells r → firstNo sharedQuestions r ≡ none → FewRows (s .layout)
-unfolding rowCounts
-few-each {r = r} k asked t = rw (k .rows t) (rows-limit r (three-yes r asked) t)
+early h room e = sym (h .answer room) ∙ ap numberIn e
 
 pub prepared-within : {bs : Bytes} {before after : List ℤ} {p : Prepared} → Prepares bs before after p → Within p
-prepared-within {bs} {p = p} (away {a} {n} h e z) f = absurd (omega (arith, refusal-positive bs n (early h e), away-number p (a .query) n z, f))
+prepared-within {p = p} (away {a} {n} h e z) f = absurd (omega (arith, h .positive n e, away-number p (a .query) n z, f))
 prepared-within {p = p} (passed {a} h e z) f =
     let x = h .kept e .stands in
     let same : p .query ≡ a .query = ap (λ (y : Prepared). y .query) (z _ _ x) ∙ by-query (a .query) _ in
@@ -85,7 +79,7 @@ prepared-within {p = p} (passed {a} h e z) f =
       some = x .some;
       tables = x .few;
       conditions = text-readable h e .conditions;
-      rows = few-each x (text-passed h e);
+      rows = tables-rows x (h .asked e .0);
     })
 
 module _ (bs : Bytes) (before after : List ℤ) (p : Prepared) (room : cellRoom ≤ length before) (n : ℕ) (enough : stepListRoom ≤ n)
@@ -103,7 +97,7 @@ module _ (bs : Bytes) (before after : List ℤ) (p : Prepared) (room : cellRoom 
   prepared-run : Prepares bs before after p → Ran p → Ends p r after w′ v v′ h → Reported (reportOutcome bs) v v′ h
   unfolding readyBy readyFor orderQuestions numbersOf all
   prepared-run (away {a} {n = i} x e z) run end =
-      turned (a .query) i z (refusal-positive bs i (early x e)) end (λ u f. report-early bs i u (early x e) f)
+      turned (a .query) i z (x .positive i e) end (λ u f. report-early bs i u (early x room e) f)
   prepared-run (passed {a} x e z) run end = go (firstNo orderQuestions (queryOf (k .report))) refl (z _ _ (k .stands))
     where
       k : KeptText bs before after (a .query)
@@ -111,11 +105,11 @@ module _ (bs : Bytes) (before after : List ℤ) (p : Prepared) (room : cellRoom 
 
       go : (o : Option ℕ) → firstNo orderQuestions (queryOf (k .report)) ≡ o → p ≡ readyBy (a .query) o → Reported (reportOutcome bs) v v′ h
       go (some i) f y = turned (a .query) i y (no-positive orderQuestions (queryOf (k .report)) i tt f) end
-          (λ u g. report-order bs (k .read) (k .stands) (text-passed x e) i u f g)
-      go none f y = report-ran bs (k .read) (k .stands) (text-passed x e) f v v′
+          (λ u g. report-order bs (k .read) (k .stands) (text-passed x e room) i u f g)
+      go none f y = report-ran bs (k .read) (k .stands) (text-passed x e room) f v v′
           (subst (λ (cells : List ℤ). StepsRun cells (a .query) v v′ h) (k .buffer room)
-          (ready-run (a .query) (text-readable x e) (five-kept (k .stands) (text-well x e) (text-passed x e))
-          (nine-kept (k .stands) (text-well x e) (text-passed x e) f) after n enough w w′ v v′ long wide r h
+          (ready-run (a .query) (text-readable x e) (five-kept (k .stands) (text-well x e) (x .asked e))
+          (nine-kept (k .stands) (text-well x e) (x .asked e) f) after n enough w w′ v v′ long wide r h
           (subst Ran y run) (subst (λ (u : Prepared). Ends u r after w′ v v′ h) y end)))
 
 -- ---- a call

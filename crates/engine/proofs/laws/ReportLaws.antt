@@ -45,8 +45,9 @@ use Rattle.plan.specs.inner.StepWords.{listed}
 use Rattle.plan.specs.inner.Words.{setWords, wordsTo}
 use Rattle.prepare.specs.Asking.{sharedQuestions, questionsOfReport}
 use Rattle.prepare.specs.inner.Accept.{refusal}
-use Rattle.prepare.proofs.laws.PassedLaws.{read-well}
-use Rattle.counts.specs.inner.Columns.{rowCounts, talliesIn}
+use Rattle.prepare.proofs.laws.PassedLaws.{read-well, shared-passed}
+use Rattle.index.specs.inner.Columns.{rowCounts}
+use Rattle.counts.specs.inner.TallyLists.{talliesIn}
 use Rattle.joins.specs.inner.Work.{workspace}
 use Rattle.joins.specs.declared.join.Joined.{Joined}
 use Rattle.joins.specs.declared.join.Joined.the-variants as J
@@ -172,7 +173,7 @@ module _ (bs : Bytes) {s : StoredQuery} {cells : List ℤ} {r : Report} (read : 
     trees = planTrees (groundOf q)
 
     nine : T (question9 q)
-    nine = nine-yes k well yes admitted
+    nine = nine-yes k well (shared-passed r yes) admitted
 
     tables-few : n ≤ mostTables
     tables-few = omega (arith, k .table-count, k .few)
@@ -267,7 +268,7 @@ module _ (bs : Bytes) {s : StoredQuery} {cells : List ℤ} {r : Report} (read : 
     facts-all : factsIn s (setWords (blankingSets (queryIn s))) cells ≡ factsOf (reportAnswer r)
     unfolding factsIn factsOf reportAnswer
     facts-all =
-        let same = query-kept k well yes admitted in
+        let same = query-kept k well (shared-passed r yes) admitted in
         let t : s .«table_count» ≡ length (map bitsOf (blankingSets q)) = k .table-count ∙ tables-all in
         let b : setWords (blankingSets (queryIn s)) ≡ map bitsOf (blankingSets q) ++ replicate (mostTables - length (map bitsOf (blankingSets q))) 0 =
         ap (λ (z : Query). setWords (blankingSets z)) same ∙ sets-all in
@@ -292,7 +293,7 @@ module _ (bs : Bytes) {s : StoredQuery} {cells : List ℤ} {r : Report} (read : 
     -- and run by the code
     pub report-ran : (w w′ : List ℕ) {x : Concluded} → StepsRun cells s w w′ x → Reported (reportOutcome bs) w w′ x
     report-ran w w′ y =
-        let same = query-kept k well yes admitted in
+        let same = query-kept k well (shared-passed r yes) admitted in
         ran-gives w w′ (factsIn s (setWords (blankingSets (queryIn s))) cells) (y .counts) (y .joined) facts-all (y .long)
         (subst (λ (m : ℕ). PlanRan W trees m (m - 1) (blankings (groundOf q)) (y .counts) w w′ (y .joined)) (k .table-count)
         (subst (λ (z : Query). PlanRan W (planTrees (groundOf z)) (s .«table_count») (s .«table_count» - 1) (blankings (groundOf z)) (y .counts) w w′ (y .joined)) same (y .ran)))

@@ -11,7 +11,8 @@ use Rattle.vocabulary.specs.declared.step.Step.{Step}
 use Rattle.vocabulary.specs.declared.facts.Facts.{Facts}
 use Rattle.plan.specs.inner.StepWords.{listed, withRows}
 use Rattle.plan.specs.declared.steps.Plan.{Plan}
-use Rattle.counts.specs.inner.Columns.{rowCounts, talliesIn}
+use Rattle.index.specs.inner.Columns.{rowCounts}
+use Rattle.counts.specs.inner.TallyLists.{talliesIn}
 use Rattle.joins.specs.declared.join.Joined.{Joined}
 use Rattle.joins.specs.declared.join.Joined.the-variants as J
 use Rattle.engine.specs.declared.answer.Answer.the-variants.{Refused, Rows}

@@ -10,7 +10,7 @@ use lib.ListN.{length, replicate}
 use Rattle.cells.specs.Limits.{cellRoom, workRoom, resultRoom, stepListRoom, mostTables, mostConditions, areas}
 use Rattle.vocabulary.specs.declared.query.StoredQuery.{StoredQuery}
 use Rattle.vocabulary.specs.declared.step.Step.{Step}
-use Rattle.counts.specs.inner.Columns.{FewRows}
+use Rattle.index.specs.inner.Columns.{FewRows}
 use Rattle.prepare.specs.declared.prepared.Prepared.{Prepared}
 use Rattle.joins.specs.declared.join.Joined.{Joined}
 use Rattle.step_list.specs.inner.State.{Ended}

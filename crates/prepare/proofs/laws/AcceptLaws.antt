@@ -1,21 +1,26 @@
--- The code's answers to questions 2 to 7 are those on the report. Assumes nothing.
-use mathlib.Core.Path.{_≡_, sym, _∙_, ap}
+-- The code's answers to questions 2 to 7 and 12 are those on the report. Assumes nothing.
+use mathlib.Core.Path.{_≡_, sym, _∙_, ap, subst}
 use mathlib.Core.Bool.{Bool, true, false, _&&_}
-use mathlib.Core.List.{List}
+use mathlib.Core.List.{List, _++_}
 use mathlib.Core.Option.{Option, none, some}
-use Prim.Native.Nat.{_≤_, ℕ}
+use Prim.Native.Nat.{_<_, _≤_, ℕ}
 use native.Mathlib.Omega.{arith}
 use lib.Dec.{leb}
 use lib.IntN.{ℤ}
 use Rattle.cells.proofs.laws.BoolLaws.{clash}
-use Rattle.cells.specs.Limits.{mostTables, mostJoins, mostWritten}
+use lib.ListN.{length}
+use Rattle.cells.specs.Limits.{mostTables, mostJoins, mostWritten, cellRoom}
+use Rattle.rows.specs.Lists.{all}
 use Rattle.vocabulary.specs.Report.{Report, queryOf}
-use Rattle.vocabulary.specs.Asking.{firstNo, about}
-use Rattle.vocabulary.proofs.laws.AskingLaws.{none-left, asked-no, asked-yes, none-then, first-about}
+use Rattle.vocabulary.specs.Asking.{firstNo, about, numbersOf}
+use Rattle.vocabulary.specs.KeyColumns.{question12, keyQuestions}
+use Rattle.vocabulary.proofs.laws.AskingLaws.{none-left, asked-no, asked-yes, none-then, first-about, no-positive}
+use Rattle.vocabulary.proofs.laws.WellRead.{WellRead}
 use Rattle.vocabulary.specs.inner.Counted.{Counted}
 use Rattle.vocabulary.specs.inner.Stands.{Stands}
 use Rattle.vocabulary.specs.inner.Stored.{queryIn}
 use Rattle.vocabulary.specs.declared.query.StoredQuery.{StoredQuery}
+use Rattle.index.specs.inner.Columns.{FewRows}
 use Rattle.text.specs.TableQuestions.{tableQuestions}
 use Rattle.text.specs.Bytes.{Bytes}
 use Rattle.text.specs.Reading.{readReport}
@@ -24,10 +29,14 @@ use Rattle.reader.specs.declared.read.ReadAnswer as Read
 use Rattle.reader.specs.declared.read.ReadOutcome.the-variants as O
 use Rattle.plan.specs.Questions.{queryQuestions, question5, question6, question7}
 use Rattle.questions.proofs.laws.Kept.{room-of}
+use Rattle.questions.specs.inner.KeptColumns.{columnsHold}
+use Rattle.questions.proofs.laws.KeptColumnLaws.{whole-twelve}
 use Rattle.questions.proofs.laws.Whole.{whole-five, whole-six, whole-seven}
 use Rattle.prepare.specs.Asking.{sharedQuestions}
 use Rattle.prepare.specs.inner.Accept.{numberIn, Asked, refusal, KeptText, Accepts}
-use Rattle.prepare.proofs.laws.Standing.{read-refused, read-kept}
+use Rattle.prepare.proofs.laws.Standing.{Kept, read-refused, read-kept}
+use Rattle.prepare.proofs.laws.PassedLaws.{read-well, tables-rows}
+use Rattle.prepare.specs.declared.accept.AcceptAnswer as Accept
 use Rattle.prepare.specs.declared.accept.AcceptOutcome.{AcceptOutcome}
 use Rattle.prepare.specs.declared.accept.AcceptOutcome.the-variants.{Refused, Accepted}
 
@@ -79,29 +88,86 @@ pub refusal-read : (bs : Bytes) (r : Report) → readReport bs ≡ some r → re
 unfolding refusal
 refusal-read bs r e = ap (λ (o : Option Report). elim o as (λ z. Option ℕ) [ none ↦ some 2 | some x ↦ firstNo sharedQuestions x ]) e
 
+-- no question of these has the number 0
+refusal-positive : (bs : Bytes) (n : ℕ) → refusal bs ≡ some n → 0 < n
+unfolding refusal sharedQuestions tableQuestions keyQuestions queryQuestions about numbersOf all
+refusal-positive bs n e = go (readReport bs) e
+  where
+    go : (o : Option Report) → _≡_ {A = Option ℕ} (elim o [ none ↦ some 2 | some r ↦ firstNo sharedQuestions r ]) (some n) → 0 < n
+    go none h = let k : _≡_ {A = ℕ} 2 n = cc in omega arith
+    go (some r) h = no-positive sharedQuestions r n tt h
+
 module _ (bs : Bytes) (before after : List ℤ) (a : Read.ReadAnswer) (e : answerIn a ≡ readOutcome bs) (f : CellsAfter bs before after) where
   pub call-refused : (n : ℕ) (q : StoredQuery) → a .outcome ≡ O.Refused n → Accepts bs before after (record { outcome = Refused n; query = q })
   unfolding numberIn
   call-refused n q h =
       let k : turnedDown n ≡ answerIn a = rw h in
-      record { answer = read-refused bs n (k ∙ e); buffer = f; kept = λ g. clash cc }
+      let g = read-refused bs n (k ∙ e) in
+      record {
+        answer = λ room. g;
+        positive = λ m i. let j : n ≡ m = cc in subst (λ (z : ℕ). 0 < z) j (refusal-positive bs n (sym g));
+        buffer = f;
+        kept = λ i. clash cc;
+        asked = λ i. clash cc;
+      }
 
   module _ (h : a .outcome ≡ O.Accepted) where
-    here : (k : KeptText bs before after (a .query)) × (firstNo tableQuestions (k .report) ≡ none)
-    here = let k : says (a .query) ≡ answerIn a = rw h in read-kept bs (a .query) before after (k ∙ e) f
+    here : Kept bs before after (a .query) (a .«key_columns»)
+    here = let k : says (a .query) (a .«key_columns») ≡ answerIn a = rw h in read-kept bs (a .query) (a .«key_columns») before after (k ∙ e) f
+
+    abbrev k : KeptText bs before after (a .query)
+    k = here .0
 
     pub call-tables : a .query .«table_count» ≤ mostTables
-    call-tables = here .0 .stands .few
+    call-tables = k .stands .few
 
-    pub call-asked : (o : AcceptOutcome) → Asked (a .query) o → Accepts bs before after (record { outcome = o; query = a .query })
-    unfolding sharedQuestions
-    call-asked o g =
-        let k = here .0 in
-        record {
-          answer = g (k .cells) (k .report) (k .stands)
-              ∙ sym (first-about queryOf queryQuestions (k .report))
-              ∙ sym (none-then tableQuestions (about queryOf queryQuestions) (k .report) (here .1))
-              ∙ sym (refusal-read bs (k .report) (k .read));
-          buffer = f;
-          kept = λ z. k;
-        }
+    pub call-rows : FewRows (a .query .layout)
+    call-rows = tables-rows (k .stands) (here .1)
+
+    -- ---- question 12, as the code asks it
+
+    module _ {b : Bool} (g : b ≡ columnsHold after (a .query .layout) (a .«key_columns») (a .query .«table_count»)) where
+      twelve : cellRoom ≤ length before → {x : Bool} → b ≡ x → question12 (k .report) ≡ x
+      twelve room y =
+          sym (whole-twelve (k .stands) (a .«key_columns») (here .2))
+          ∙ ap (λ (cells : List ℤ). columnsHold cells (a .query .layout) (a .«key_columns») (a .query .«table_count»)) (sym (k .buffer room))
+          ∙ sym g ∙ y
+
+      -- what the text is asked behind questions 2 to 4
+      behind : refusal bs ≡ firstNo (keyQuestions ++ about queryOf queryQuestions) (k .report)
+      unfolding sharedQuestions
+      behind = refusal-read bs (k .report) (k .read) ∙ none-then tableQuestions (keyQuestions ++ about queryOf queryQuestions) (k .report) (here .1)
+
+      pub call-twelve : b ≡ false → Accepts bs before after (record { outcome = Refused 12; query = a .query })
+      unfolding numberIn keyQuestions
+      call-twelve y = record {
+        answer = λ room. sym (behind ∙ asked-no _ _ _ (twelve room y));
+        positive = λ m i. let j : 12 ≡ m = cc in omega (arith, j);
+        buffer = f;
+        kept = λ i. clash cc;
+        asked = λ i. clash cc;
+      }
+
+      pub call-asked : b ≡ true → (o : AcceptOutcome) → Asked (a .query) o → Accepts bs before after (record { outcome = o; query = a .query })
+      unfolding numberIn keyQuestions queryQuestions numbersOf all
+      call-asked y o q = record {
+        answer = λ room. query ∙ sym (behind ∙ asked-yes _ _ _ (twelve room y) ∙ first-about queryOf queryQuestions (k .report));
+        positive = λ m i. no-positive queryQuestions (queryOf (k .report)) m tt (sym query ∙ ap numberIn i);
+        buffer = f;
+        kept = λ i. k;
+        asked = λ i. (here .1, sym query ∙ ap numberIn i);
+      }
+        where
+          query : numberIn o ≡ firstNo queryQuestions (queryOf (k .report))
+          query = q (k .cells) (k .report) (k .stands)
+
+-- ---- a text that is accepted
+
+-- its report is well read, and, where the cell buffer has room for its cells, no question of both runs turns it down
+module _ {bs : Bytes} {before after : List ℤ} {x : Accept.AcceptAnswer} (h : Accepts bs before after x) (e : x .outcome ≡ Accepted) where
+  pub text-well : WellRead (queryOf (h .kept e .report))
+  text-well = read-well bs (h .kept e .report) (h .kept e .read)
+
+  pub text-passed : cellRoom ≤ length before → firstNo sharedQuestions (h .kept e .report) ≡ none
+  unfolding numberIn
+  text-passed room = sym (refusal-read bs (h .kept e .report) (h .kept e .read)) ∙ sym (h .answer room) ∙ ap numberIn e

@@ -1,8 +1,8 @@
 -- What it says of a report that no question of both runs turns it down: its query is accepted, its tables have few rows, and the counts of
 -- what is kept of it are within the arrays' room. Assumes nothing.
-use mathlib.Core.Path.{_≡_, subst, refl, sym, _∙_, ap}
+use mathlib.Core.Path.{_≡_, subst, refl, sym, _∙_}
 use mathlib.Core.Logic.{by-cases}
-use mathlib.Core.List.{List, []}
+use mathlib.Core.List.{List, [], _++_}
 use mathlib.Core.Bool.{_&&_}
 use mathlib.Core.Option.{Option, none, some}
 use Prim.Native.Nat.{_≤_, ℕ}
@@ -17,15 +17,17 @@ use Rattle.cells.specs.Limits.{mostColumns, mostRows, mostTables, mostCells, mo
 use Rattle.cells.specs.Row.{blankRow}
 use Rattle.rows.specs.Lists.{all}
 use Rattle.rows.proofs.laws.ListLaws.{here, there, all-elim, getD-isIn}
-use Rattle.vocabulary.specs.Asking.{firstNo, about}
+use Rattle.vocabulary.specs.Asking.{Question, firstNo, about}
+use Rattle.vocabulary.specs.KeyColumns.{keyQuestions, question12}
 use Rattle.vocabulary.proofs.laws.WellRead.{WellRead}
 use Rattle.vocabulary.specs.Report.{Report, queryOf, Query, Table}
-use Rattle.vocabulary.proofs.laws.AskingLaws.{append-yes, all-yes, first-about}
+use Rattle.vocabulary.proofs.laws.AskingLaws.{append-yes, all-yes, first-yes, first-about}
 use Rattle.vocabulary.specs.inner.Counted.{Counted}
 use Rattle.vocabulary.specs.Database.{tableAt, rowCountIn}
 use Rattle.vocabulary.specs.inner.Stands.{Stands}
 use Rattle.vocabulary.specs.inner.Stored.{queryIn}
 use Rattle.vocabulary.specs.declared.query.StoredQuery.{StoredQuery}
+use Rattle.index.specs.inner.Columns.{rowCounts, FewRows}
 use Rattle.text.specs.Bytes.{Bytes}
 use Rattle.text.specs.TableQuestions.{tableQuestions, question3, tableFits, cellsInTables}
 use Rattle.text.specs.Lines.{Line}
@@ -36,10 +38,7 @@ use Rattle.plan.proofs.laws.QueryLaws.{Accepted}
 use Rattle.questions.proofs.laws.Kept.{room-of}
 use Rattle.questions.proofs.laws.Whole.{whole-five, whole-six}
 use Rattle.prepare.specs.Asking.{sharedQuestions}
-use Rattle.prepare.specs.inner.Accept.{numberIn, Accepts}
-use Rattle.prepare.proofs.laws.AcceptLaws.{refusal-read}
-use Rattle.prepare.specs.declared.accept.AcceptAnswer as Accept
-use Rattle.prepare.specs.declared.accept.AcceptOutcome.the-variants as O
+use Rattle.prepare.specs.inner.Accept.{Passed}
 
 -- ---- a report that no question of both runs turns down
 
@@ -52,24 +51,46 @@ read-well bs r e = go (textLines bs) e
     go none e = clash cc
     go (some ls) e = let x : reportOf ls ≡ r = cc in subst (λ (z : Report). WellRead (queryOf z)) x (report-well-read ls)
 
-module _ (r : Report) (yes : firstNo sharedQuestions r ≡ none) where
-  pub three-yes : T (question3 r)
-  unfolding sharedQuestions tableQuestions
-  three-yes = all-yes sharedQuestions r yes (3, λ (z : Report). question3 z) (here refl)
-
-  query-yes : firstNo queryQuestions (queryOf r) ≡ none
-  unfolding sharedQuestions
-  query-yes = sym (first-about queryOf queryQuestions r) ∙ append-yes tableQuestions (about queryOf queryQuestions) r yes .1
+module _ (r : Report) (yes : Passed r) where
+  passed-three : T (question3 r)
+  unfolding tableQuestions
+  passed-three = all-yes tableQuestions r (yes .0) (3, λ (z : Report). question3 z) (here refl)
 
   -- questions 5 to 7 say that its query is accepted
-  pub report-accepted : WellRead (queryOf r) → Accepted (queryOf r)
+  passed-accepted : WellRead (queryOf r) → Accepted (queryOf r)
   unfolding queryQuestions
-  report-accepted well = record {
+  passed-accepted well = record {
     read = well;
-    five = all-yes queryQuestions (queryOf r) query-yes (5, λ (q : Query). question5 q) (here refl);
-    six = all-yes queryQuestions (queryOf r) query-yes (6, λ (q : Query). question6 q) (there (here refl));
-    seven = all-yes queryQuestions (queryOf r) query-yes (7, λ (q : Query). question7 q) (there (there (here refl)));
+    five = all-yes queryQuestions (queryOf r) (yes .1) (5, λ (q : Query). question5 q) (here refl);
+    six = all-yes queryQuestions (queryOf r) (yes .1) (6, λ (q : Query). question6 q) (there (here refl));
+    seven = all-yes queryQuestions (queryOf r) (yes .1) (7, λ (q : Query). question7 q) (there (there (here refl)));
   }
+
+module _ (r : Report) (yes : firstNo sharedQuestions r ≡ none) where
+  abbrev others : List (Question Report)
+  others = keyQuestions ++ about queryOf queryQuestions
+
+  behind : firstNo others r ≡ none
+  unfolding sharedQuestions
+  behind = append-yes tableQuestions others r yes .1
+
+  pub shared-passed : Passed r
+  unfolding sharedQuestions
+  shared-passed = (
+    append-yes tableQuestions others r yes .0,
+    sym (first-about queryOf queryQuestions r) ∙ append-yes keyQuestions (about queryOf queryQuestions) r behind .1,
+  )
+
+  pub three-yes : T (question3 r)
+  three-yes = passed-three r shared-passed
+
+  pub report-accepted : WellRead (queryOf r) → Accepted (queryOf r)
+  report-accepted = passed-accepted r shared-passed
+
+  -- question 12
+  pub twelve-yes : T (question12 r)
+  unfolding keyQuestions
+  twelve-yes = first-yes (12, λ (z : Report). question12 z) [] r (append-yes keyQuestions (about queryOf queryQuestions) r behind .0) .0
 
 -- a table that question 3 passes
 table-rows : (t : Table) → T (tableFits t) → length (t .rows) ≤ mostRows
@@ -86,7 +107,7 @@ rows-limit r h t = by-cases (decLt t (length (r .tables)))
     (λ b. let k : length (r .tables) ≤ t = omega arith in rw (List·getD-eq-default (r .tables) empty k) (lit≤ tt))
   where
     empty : Table
-    empty = record { columns = 0; rows = [] }
+    empty = record { columns = 0; keyColumn = none; rows = [] }
 
     fit : T (all tableFits (r .tables))
     fit = and-yes (leb 1 (length (r .tables)) && leb (length (r .tables)) mostTables) (all tableFits (r .tables))
@@ -97,18 +118,14 @@ pub few-rows : (r : Report) → T (question3 r) → (t : ℕ) → rowCountIn r t
 unfolding blankRow
 few-rows r h t = omega (arith, rows-limit r h t)
 
--- a text that is accepted: its report is well read, and no question of both runs turns it down
-module _ {bs : Bytes} {before after : List ℤ} {x : Accept.AcceptAnswer} (h : Accepts bs before after x) (e : x .outcome ≡ O.Accepted) where
-  pub text-well : WellRead (queryOf (h .kept e .report))
-  text-well = read-well bs (h .kept e .report) (h .kept e .read)
+-- no table has more rows than a table may have
+pub tables-rows : {s : StoredQuery} {cells : List ℤ} {r : Report} → Stands s cells r → firstNo tableQuestions r ≡ none → FewRows (s .layout)
+unfolding rowCounts tableQuestions
+tables-rows {r = r} k e t = rw (k .rows t) (rows-limit r (all-yes tableQuestions r e (3, λ (z : Report). question3 z) (here refl)) t)
 
-  pub text-passed : firstNo sharedQuestions (h .kept e .report) ≡ none
-  unfolding numberIn
-  text-passed = sym (refusal-read bs (h .kept e .report) (h .kept e .read)) ∙ sym (h .answer) ∙ ap numberIn e
-
-module _ {s : StoredQuery} {cells : List ℤ} {r : Report} (k : Stands s cells r) (well : WellRead (queryOf r)) (yes : firstNo sharedQuestions r ≡ none) where
+module _ {s : StoredQuery} {cells : List ℤ} {r : Report} (k : Stands s cells r) (well : WellRead (queryOf r)) (yes : Passed r) where
   pub ok : Accepted (queryOf r)
-  ok = report-accepted r yes well
+  ok = passed-accepted r yes well
 
   pub few-joins : s .«join_count» ≤ mostJoins
   few-joins = room-of (s .«join_count») mostJoins (question5 (queryIn s)) (whole-five k ∙ is-true _ (ok .five))

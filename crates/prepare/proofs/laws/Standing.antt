@@ -15,10 +15,11 @@ use Rattle.cells.specs.Limits.{mostTables, mostCells, mostConditions, cellRoom}
 use Rattle.rows.specs.Lists.{all}
 use Rattle.rows.proofs.laws.ListLaws.{here, there}
 use Rattle.vocabulary.specs.Report.{Table, Report, queryOf}
-use Rattle.vocabulary.specs.Asking.{firstNo, about}
+use Rattle.vocabulary.specs.Asking.{Question, firstNo, about}
+use Rattle.vocabulary.specs.KeyColumns.{keyQuestions}
 use Rattle.vocabulary.proofs.laws.AskingLaws.{all-yes, no-then}
 use Rattle.vocabulary.specs.Database.{tableAt, rowCountIn, cellsOf}
-use Rattle.vocabulary.specs.inner.Stands.{Stands}
+use Rattle.vocabulary.specs.inner.Stands.{Stands, KeysStand}
 use Rattle.vocabulary.specs.declared.query.StoredQuery.{StoredQuery}
 use Rattle.text.specs.TableQuestions.{tableQuestions, cellsInTables, tableFits, question3, question4}
 use Rattle.text.specs.Bytes.{Bytes}
@@ -29,15 +30,19 @@ use Rattle.reader.specs.inner.CellBuffer.{Begins}
 use Rattle.reader.proofs.laws.FlatCells.{flatCells, flatTables, text-cells}
 use Rattle.reader.specs.inner.Query.{storedOf}
 use Rattle.reader.proofs.laws.QueryLaws.{done, stored-tables, stored-numbered}
-use Rattle.reader.specs.inner.Outcome.{TextOutcome, turnedDown, says, readOutcome, outcomeOf, linesOutcome, CellsAfter}
+use Rattle.reader.specs.inner.Outcome.{TextOutcome, turnedDown, says, linesSay, readOutcome, outcomeOf, linesOutcome, CellsAfter}
 use Rattle.reader.proofs.laws.Whole as W
 use Rattle.reader.proofs.laws.Ranges.{joins-room, join-range}
 use Rattle.reader.proofs.laws.Conditions.{condition-seen}
 use Rattle.reader.proofs.laws.Looked.{noTable, flat-length}
-use Rattle.reader.proofs.laws.Cells.{rows-whole, cells-whole}
+use Rattle.reader.proofs.laws.Cells.{rows-whole, keys-whole, cells-whole}
 use Rattle.plan.specs.Questions.{queryQuestions}
 use Rattle.prepare.specs.Asking.{sharedQuestions}
 use Rattle.prepare.specs.inner.Accept.{KeptText, refusal}
+
+-- what is kept of a text, that its tables passed their questions, and its key columns
+abbrev pub Kept : Bytes → List ℤ → List ℤ → StoredQuery → List ℕ → Type 0
+Kept bs before after s keys = (k : KeptText bs before after s) × (firstNo tableQuestions (k .report) ≡ none) × KeysStand keys (k .report)
 
 -- ---- the text's tables, after questions 2 to 4
 
@@ -83,12 +88,17 @@ module _ (bs : Bytes) (ls : List Line) (read : textLines bs ≡ some ls) (yes : 
     cells-same = cells-whole ls early (within .1) (within .2) even more;
   }
 
+  -- and its key columns
+  keys-stand : KeysStand (done ls .tables .«key_columns») (reportOf ls)
+  unfolding tableAt noTable reportOf
+  keys-stand = keys-whole ls early (within .1) (within .2) even
+
   -- ---- the cell buffer that the text leaves: its cells, and what is there behind them
 
-  says-kept : says (storedOf (done ls)) ≡ readOutcome bs
+  says-kept : linesSay ls ≡ readOutcome bs
   unfolding readOutcome outcomeOf linesOutcome
   says-kept = sym (ap outcomeOf read
-      ∙ ap (λ (o : Option ℕ). elim o as (λ z. TextOutcome) [ some n ↦ turnedDown n | none ↦ says (storedOf (done ls)) ]) yes)
+      ∙ ap (λ (o : Option ℕ). elim o as (λ z. TextOutcome) [ some n ↦ turnedDown n | none ↦ linesSay ls ]) yes)
 
   tables-length : (xs : List Table) → length (flatTables xs) ≡ cellsInTables xs
   unfolding flatTables cellsInTables
@@ -100,11 +110,11 @@ module _ (bs : Bytes) (ls : List Line) (read : textLines bs ≡ some ls) (yes : 
   run-left before after r h =
       let few : length (flatTables ts) ≤ length after = omega (arith, tables-length ts, within .2, r .kept) in
       let b : Begins after (flatTables ts) =
-      subst (λ (zs : List ℤ). Begins after zs) (text-cells bs ls read) (r .begins (storedOf (done ls)) says-kept) in
+      subst (λ (zs : List ℤ). Begins after zs) (text-cells bs ls read) (r .begins (storedOf (done ls)) (done ls .tables .«key_columns») says-kept) in
       sym (ap (λ (zs : List ℤ). zs ++ drop (length (flatTables ts)) after) (sym (b few)) ∙ take-append-drop (length (flatTables ts)) after)
 
   lines-kept : (before after : List ℤ) → CellsAfter bs before after
-      → (k : KeptText bs before after (storedOf (done ls))) × (firstNo tableQuestions (k .report) ≡ none)
+      → Kept bs before after (storedOf (done ls)) (done ls .tables .«key_columns»)
   lines-kept before after e = (
     record {
       report = reportOf ls;
@@ -114,6 +124,7 @@ module _ (bs : Bytes) (ls : List Line) (read : textLines bs ≡ some ls) (yes : 
       buffer = run-left before after e;
     },
     yes,
+    keys-stand,
   )
 
 -- ---- the reader's answers
@@ -122,33 +133,34 @@ pub read-refused : (bs : Bytes) (n : ℕ) → turnedDown n ≡ readOutcome bs �
 unfolding readOutcome outcomeOf linesOutcome refusal readReport sharedQuestions
 read-refused bs n e = go (textLines bs) e
   where
-    lines : (r : Report) (s : StoredQuery) (o : Option ℕ) → firstNo tableQuestions r ≡ o
-        → turnedDown n ≡ (elim o [ some k ↦ turnedDown k | none ↦ says s ]) → some n ≡ firstNo (tableQuestions ++ about queryOf queryQuestions) r
-    lines r s none f e = clash cc
-    lines r s (some k) f e = let m : k ≡ n = cc in sym (no-then tableQuestions (about queryOf queryQuestions) r n (f ∙ ap some m))
+    others : List (Question Report)
+    others = keyQuestions ++ about queryOf queryQuestions
+
+    lines : (r : Report) (s : StoredQuery) (keys : List ℕ) (o : Option ℕ) → firstNo tableQuestions r ≡ o
+        → turnedDown n ≡ (elim o [ some k ↦ turnedDown k | none ↦ says s keys ]) → some n ≡ firstNo (tableQuestions ++ others) r
+    lines r s keys none f e = clash cc
+    lines r s keys (some k) f e = let m : k ≡ n = cc in sym (no-then tableQuestions others r n (f ∙ ap some m))
 
     go : (o : Option (List Line)) → turnedDown n ≡ outcomeOf o
         → some n ≡ (elim (elim o as (λ z. Option Report) [ none ↦ none | some ls ↦ some (reportOf ls) ]) as (λ z. Option ℕ)
-        [ none ↦ some 2 | some r ↦ firstNo (tableQuestions ++ about queryOf queryQuestions) r ])
+        [ none ↦ some 2 | some r ↦ firstNo (tableQuestions ++ others) r ])
     go none e = cc
-    go (some ls) e = lines (reportOf ls) (storedOf (done ls)) (firstNo tableQuestions (reportOf ls)) refl e
+    go (some ls) e = lines (reportOf ls) (storedOf (done ls)) (done ls .tables .«key_columns») (firstNo tableQuestions (reportOf ls)) refl e
 
--- what is kept, and that the tables passed their questions
-pub read-kept : (bs : Bytes) (s : StoredQuery) (before after : List ℤ) → says s ≡ readOutcome bs → CellsAfter bs before after
-    → (k : KeptText bs before after s) × (firstNo tableQuestions (k .report) ≡ none)
+pub read-kept : (bs : Bytes) (s : StoredQuery) (keys : List ℕ) (before after : List ℤ) → says s keys ≡ readOutcome bs → CellsAfter bs before after
+    → Kept bs before after s keys
 unfolding readOutcome outcomeOf linesOutcome
-read-kept bs s before after e h = go (textLines bs) refl e
+read-kept bs s keys before after e h = go (textLines bs) refl e
   where
-    Tied : Type 0
-    Tied = (k : KeptText bs before after s) × (firstNo tableQuestions (k .report) ≡ none)
-
     lines : (ls : List Line) → textLines bs ≡ some ls → (o : Option ℕ) → firstNo tableQuestions (reportOf ls) ≡ o
-        → says s ≡ (elim o [ some k ↦ turnedDown k | none ↦ says (storedOf (done ls)) ]) → Tied
+        → says s keys ≡ (elim o [ some k ↦ turnedDown k | none ↦ linesSay ls ]) → Kept bs before after s keys
     lines ls p none f e =
         let x : s ≡ storedOf (done ls) = cc in
-        subst (λ (z : StoredQuery). (k : KeptText bs before after z) × (firstNo tableQuestions (k .report) ≡ none)) (sym x) (lines-kept bs ls p f before after h)
+        let y : keys ≡ done ls .tables .«key_columns» = cc in
+        subst (λ (z : StoredQuery). Kept bs before after z keys) (sym x)
+        (subst (λ (z : List ℕ). Kept bs before after (storedOf (done ls)) z) (sym y) (lines-kept bs ls p f before after h))
     lines ls p (some k) f e = clash cc
 
-    go : (o : Option (List Line)) → textLines bs ≡ o → says s ≡ outcomeOf o → Tied
+    go : (o : Option (List Line)) → textLines bs ≡ o → says s keys ≡ outcomeOf o → Kept bs before after s keys
     go none p e = clash cc
     go (some ls) p e = lines ls p (firstNo tableQuestions (reportOf ls)) refl e

@@ -1,9 +1,9 @@
--- Questions 2 to 7 on a text, as the code answers them, and what is kept of a text that passes them. For the functions of src/accept.rt.
--- Specification 9.4, 9.5, 9.6, 9.7, 9.8, 9.9. Assumes nothing.
+-- Questions 2 to 7 and 12 on a text, as the code answers them, and what is kept of a text that passes them. For the functions of
+-- src/accept.rt. Specification 9.4, 9.5, 9.6, 9.7, 9.8, 9.9, 9.14. Assumes nothing.
 use mathlib.Core.Path.{_≡_}
 use mathlib.Core.List.{List}
 use mathlib.Core.Option.{Option, none, some}
-use Prim.Native.Nat.{ℕ, _≤_}
+use Prim.Native.Nat.{ℕ, _<_, _≤_}
 use lib.IntN.{ℤ}
 use lib.ListN.{length}
 use Rattle.cells.specs.Limits.{cellRoom}
@@ -13,6 +13,7 @@ use Rattle.vocabulary.specs.inner.Stands.{Stands}
 use Rattle.vocabulary.specs.declared.query.StoredQuery.{StoredQuery}
 use Rattle.text.specs.Bytes.{Bytes}
 use Rattle.text.specs.Reading.{readReport}
+use Rattle.text.specs.TableQuestions.{tableQuestions}
 use Rattle.reader.specs.inner.Outcome.{CellsAfter}
 use Rattle.plan.specs.Questions.{queryQuestions}
 use Rattle.prepare.specs.Asking.{sharedQuestions}
@@ -20,7 +21,7 @@ use Rattle.prepare.specs.declared.accept.AcceptAnswer.{AcceptAnswer}
 use Rattle.prepare.specs.declared.accept.AcceptOutcome.{AcceptOutcome}
 use Rattle.prepare.specs.declared.accept.AcceptOutcome.the-variants.{Refused, Accepted}
 
--- the number of the first of questions 2 to 7 that is answered no. Specification 9.1
+-- the number of the first of questions 2 to 7 and 12 that is answered no. Specification 9.1
 unfoldable pub refusal : Bytes → Option ℕ
 refusal bs = elim (readReport bs) [ none ↦ some 2 | some r ↦ firstNo sharedQuestions r ]
 
@@ -33,6 +34,11 @@ numberIn Accepted = none
 abbrev pub Asked : StoredQuery → AcceptOutcome → Type 0
 Asked s o = (cells : List ℤ) (r : Report) → Stands s cells r → numberIn o ≡ firstNo queryQuestions (queryOf r)
 
+-- what the tests of the code tell of a report, whatever the cell buffer has room for: what its tables and its query are asked is
+-- answered yes. Question 12 is not among it, since it is asked of the cells.
+abbrev pub Passed : Report → Type 0
+Passed r = (firstNo tableQuestions r ≡ none) × (firstNo queryQuestions (queryOf r) ≡ none)
+
 -- what is kept of a text stands for the report that it says; where the cell buffer has room for the cells, it has them
 pub record KeptText (bs : Bytes) (before after : List ℤ) (s : StoredQuery) : Type 0 where
   pub report : Report
@@ -41,8 +47,11 @@ pub record KeptText (bs : Bytes) (before after : List ℤ) (s : StoredQuery) : T
   pub stands : Stands s cells report
   pub buffer : cellRoom ≤ length before → after ≡ cells
 
--- what a call answers, with the cell buffer before and after it. Specification 9.1
+-- what a call answers, with the cell buffer before and after it. Question 12 is asked of the cells, so that the number is the right one
+-- where the cell buffer has room for them. Specification 9.1
 pub record Accepts (bs : Bytes) (before after : List ℤ) (a : AcceptAnswer) : Type 0 where
-  pub answer : numberIn (a .outcome) ≡ refusal bs
+  pub answer : cellRoom ≤ length before → numberIn (a .outcome) ≡ refusal bs
+  pub positive : (n : ℕ) → a .outcome ≡ Refused n → 0 < n
   pub buffer : CellsAfter bs before after
   pub kept : a .outcome ≡ Accepted → KeptText bs before after (a .query)
+  pub asked : (e : a .outcome ≡ Accepted) → Passed (kept e .report)

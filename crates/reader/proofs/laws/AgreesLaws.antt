@@ -38,7 +38,7 @@ if-same false n = refl
 
 next-same : (p : PlaceRead) (x : Line) → next (placeOf p) x ≡ placesOf (nextRead p (lineRead (some x)))
 unfolding next opens follows opensAt followsAt placesOf
-next-same p (tablesPart (tableLine n)) = if-same (leb (p .part) 1) 1
+next-same p (tablesPart (tableLine n k)) = if-same (leb (p .part) 1) 1
 next-same p (tablesPart (rowLine zs)) = if-same (eqb (p .part) 1) 1
 next-same p (joinsPart (joinLine k a b)) = if-same (leb (p .part) 2) 2
 next-same p (joinsPart (conditionLine c)) = if-same (eqb (p .part) 2) 2
@@ -50,7 +50,7 @@ next-same p (orderPart (orderLine a b)) = if-same (leb (p .part) 3) 3
 lines-step : (s : Reading) (x : Line) (ls : List Line) (q : PlaceRead) → nextRead (s .place) (lineRead (some x)) ≡ some q
     → linesAfter (atPlace (told s (lineRead (some x))) q) ls ≡ linesAfter s (x ∷ ls)
 unfolding linesAfter lastPlace tablesAfter joinsAfter conditionsAfter pairsAfter afterJoin afterCondition picked also ofTables ofJoins ofOrder
-lines-step s (tablesPart (tableLine n)) ls q e = rw e
+lines-step s (tablesPart (tableLine n k)) ls q e = rw e
 lines-step s (tablesPart (rowLine zs)) ls q e = rw e
 lines-step s (joinsPart (joinLine k a b)) ls q e = rw e
 lines-step s (joinsPart (conditionLine c)) ls q e = rw e

@@ -18,6 +18,7 @@ use Rattle.cells.specs.declared.condition.Layout.{Layout}
 use Rattle.rows.specs.Lists.{all}
 use Rattle.rows.proofs.laws.ListLaws.{all-elim, getD-isIn}
 use Rattle.vocabulary.specs.Report.{Table}
+use Rattle.vocabulary.specs.inner.Stored.{keyKept}
 use Rattle.text.specs.Lines.{Line}
 use Rattle.text.specs.LineParts.{tableLines}
 use Rattle.text.proofs.laws.ReadingLaws.{earlyRows}
@@ -27,10 +28,10 @@ use Rattle.reader.proofs.laws.FlatCells.{flatTables}
 use Rattle.reader.specs.inner.State.{noTables, closedRows}
 use Rattle.reader.specs.inner.Survey.{start}
 use Rattle.reader.specs.inner.Agrees.{linesAfter}
-use Rattle.reader.proofs.laws.KeptLaws.{columns-kept, rows-kept}
+use Rattle.reader.proofs.laws.KeptLaws.{columns-kept, keys-kept, rows-kept}
 use Rattle.reader.proofs.laws.QueryLaws.{sets-behind, done}
 use Rattle.reader.specs.inner.Query.{storedOf}
-use Rattle.reader.proofs.laws.Looked.{Wide, noTable, rows-at, cells-looked}
+use Rattle.reader.proofs.laws.Looked.{Wide, noTable, rows-at, key-at, cells-looked}
 
 abbrev none : ℕ → List ℕ
 none n = replicate n 0
@@ -79,6 +80,24 @@ module _ (ls : List Line) (early : earlyRows ls ≡ []) (fits : length (tablesIn
       go false e =
           let h : length ts ≤ t = ltb-false t (length ts) e in
           rows-beyond t (omega (arith, some, h)) h ∙ sym (ap (λ (x : Table). length (x .rows)) (List·getD-eq-default ts noTable h))
+
+  keys-beyond : (t : ℕ) → length ts ≤ t → getD (done ls .tables .«key_columns») t 0 ≡ 0
+  unfolding linesAfter start noTables
+  keys-beyond t h =
+      let n : length (map (λ (x : Table). keyKept (x .keyColumn)) ts) ≡ length ts = length-map ts (λ (x : Table). keyKept (x .keyColumn)) in
+      ap (λ (x : List ℕ). getD x t 0) (keys-kept noTables (tableLines ls))
+      ∙ sets-beyond mostTables (map (λ (x : Table). keyKept (x .keyColumn)) ts) t (rw n fits) (rw n h)
+
+  -- the key column of each table, and that there is none of a table that there is not
+  pub keys-whole : (t : ℕ) → getD (done ls .tables .«key_columns») t 0 ≡ keyKept (getD ts t noTable .keyColumn)
+  unfolding noTable keyKept
+  keys-whole t = go (ltb t (length ts)) refl
+    where
+      go : (b : Bool) → ltb t (length ts) ≡ b → getD (done ls .tables .«key_columns») t 0 ≡ keyKept (getD ts t noTable .keyColumn)
+      go true e = key-at ls early fits few t (ltb-true t (length ts) e)
+      go false e =
+          let h : length ts ≤ t = ltb-false t (length ts) e in
+          keys-beyond t h ∙ sym (ap (λ (x : Table). keyKept (x .keyColumn)) (List·getD-eq-default ts noTable h))
 
   wide : (t : ℕ) → t < length ts → Wide (getD ts t noTable .columns) (getD ts t noTable .rows)
   unfolding question4 reportOf

@@ -15,6 +15,7 @@ use borrow.Author.Tests.{le-leb, lt-leb, leb-false}
 use Rattle.cells.specs.Limits.{mostColumns, mostRows, mostCells}
 use Rattle.rows.specs.Lists.{all}
 use Rattle.vocabulary.specs.Report.{Table}
+use Rattle.vocabulary.specs.inner.Stored.{keyKept}
 use Rattle.text.specs.Lines.{TableLine, tableLine, rowLine}
 use Rattle.text.specs.Reading.{firstRows, tablesOf}
 use Rattle.text.specs.TableQuestions.{tableFits, cellsInRows, cellsInTables}
@@ -39,7 +40,7 @@ pub even-kept : (t : Tables) (ls : List TableLine)
     → (tablesAfter t ls) .even ≡ (t .even && (Even (t .columns) (firstRows ls) && AllEven (tablesOf ls)))
 unfolding tablesAfter firstRows tablesOf afterTable afterRow all
 even-kept t [] = sym (and-true (t .even))
-even-kept t (tableLine n ∷ ls) = even-kept (afterTable t n) ls
+even-kept t (tableLine n k ∷ ls) = even-kept (afterTable t n (keyKept k)) ls
 even-kept t (rowLine zs ∷ ls) =
     even-kept (afterRow t (length zs)) ls
     ∙ regroup (t .even) (eqb (length zs) (t .columns)) (Even (t .columns) (firstRows ls)) (AllEven (tablesOf ls))
@@ -58,8 +59,8 @@ pub fits-kept : (t : Tables) (ls : List TableLine)
     ≡ (leb (t .rows + length (firstRows ls)) mostRows && (t .fits && all tableFits (tablesOf ls)))
 unfolding tablesAfter firstRows tablesOf afterTable afterRow all tableFits fitsAfter
 fits-kept t [] = rw (add-zero (t .rows), and-true (t .fits))
-fits-kept t (tableLine n ∷ ls) =
-    fits-kept (afterTable t n) ls
+fits-kept t (tableLine n k ∷ ls) =
+    fits-kept (afterTable t n (keyKept k)) ls
     ∙ rw (zero-add (length (firstRows ls)), add-zero (t .rows))
     (exchange (leb (length (firstRows ls)) mostRows) (leb (t .rows) mostRows) (leb 1 n) (leb n mostColumns) (t .fits) (all tableFits (tablesOf ls)))
 fits-kept t (rowLine zs ∷ ls) =
@@ -94,7 +95,7 @@ cells-step c n m = go (leb n mostCells) refl (leb c mostCells) refl
 pub cells-kept : (t : Tables) (ls : List TableLine) → leb ((tablesAfter t ls) .cells) mostCells ≡ leb (t .cells + cellsWritten ls) mostCells
 unfolding tablesAfter firstRows tablesOf afterTable afterRow cellsInRows cellsInTables
 cells-kept t [] = rw (add-zero (t .cells))
-cells-kept t (tableLine n ∷ ls) = cells-kept (afterTable t n) ls ∙ rw (zero-add (cellsWritten ls))
+cells-kept t (tableLine n k ∷ ls) = cells-kept (afterTable t n (keyKept k)) ls ∙ rw (zero-add (cellsWritten ls))
 cells-kept t (rowLine zs ∷ ls) =
     let e : length zs + cellsInRows (firstRows ls) + cellsInTables (tablesOf ls) ≡ length zs + cellsWritten ls = omega arith in
     cells-kept (afterRow t (length zs)) ls ∙ cells-step (t .cells) (length zs) (cellsWritten ls) ∙ rw e
@@ -111,8 +112,8 @@ pub offsets-kept : (t : Tables) (ls : List TableLine) → t .cells + cellsWritte
     ≡ sets (t .layout .offsets) (t .count) (offsetsFrom (t .cells + cellsInRows (firstRows ls)) (tablesOf ls))
 unfolding tablesAfter firstRows tablesOf afterTable afterRow closedRows openedTable cellsInRows cellsInTables offsetsFrom
 offsets-kept t [] h = refl
-offsets-kept t (tableLine n ∷ ls) h =
-    offsets-kept (afterTable t n) ls (omega arith) ∙ rw (add-one (t .count), add-zero (t .cells))
+offsets-kept t (tableLine n k ∷ ls) h =
+    offsets-kept (afterTable t n (keyKept k)) ls (omega arith) ∙ rw (add-one (t .count), add-zero (t .cells))
 offsets-kept t (rowLine zs ∷ ls) h =
     let w : t .cells + length zs ≤ mostCells = omega arith in
     let e = cells-within (t .cells) (length zs) w in

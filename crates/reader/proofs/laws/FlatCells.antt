@@ -26,7 +26,7 @@ use Rattle.reader.proofs.laws.LineCellsLaws.{line-row, line-other}
 
 -- the cells of lines of the tables part
 unfoldable pub cellsOfLine : TableLine → List ℤ
-cellsOfLine (tableLine n) = []
+cellsOfLine (tableLine n k) = []
 cellsOfLine (rowLine zs) = zs
 
 unfoldable pub cellsOfLines : List TableLine → List ℤ
@@ -45,7 +45,7 @@ flatTables (t ∷ ts) = flatCells (t .rows) ++ flatTables ts
 pub lines-flat : (ls : List TableLine) → cellsOfLines ls ≡ flatCells (firstRows ls) ++ flatTables (tablesOf ls)
 unfolding cellsOfLines cellsOfLine firstRows tablesOf flatCells flatTables
 lines-flat [] = refl
-lines-flat (tableLine n ∷ ls) = lines-flat ls
+lines-flat (tableLine n k ∷ ls) = lines-flat ls
 lines-flat (rowLine zs ∷ ls) =
     ap (λ (l : List ℤ). zs ++ l) (lines-flat ls) ∙ sym (append-assoc zs (flatCells (firstRows ls)) (flatTables (tablesOf ls)))
 
@@ -71,7 +71,7 @@ lines-more x ls = go (ofTables x)
 no-row-cells : (o : Option Line) → ((n : ℕ) → lineRead o ≡ R.Row n → ⊥) → cellsIn o ≡ []
 unfolding cellsIn cellsAny cellsOfLine ofTables
 no-row-cells none h = refl
-no-row-cells (some (tablesPart (tableLine n))) h = refl
+no-row-cells (some (tablesPart (tableLine n k))) h = refl
 no-row-cells (some (tablesPart (rowLine zs))) h = absurd (h (length zs) refl)
 no-row-cells (some (joinsPart x)) h = refl
 no-row-cells (some (orderPart x)) h = refl

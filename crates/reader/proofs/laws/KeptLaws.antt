@@ -11,7 +11,7 @@ use lib.Seq.{sets}
 use Rattle.cells.specs.declared.condition.Condition.{Condition}
 use Rattle.rows.specs.Lists.{range}
 use Rattle.vocabulary.specs.Report.{Pair, Table}
-use Rattle.vocabulary.specs.inner.Stored.{joinIn}
+use Rattle.vocabulary.specs.inner.Stored.{joinIn, keyKept}
 use Rattle.vocabulary.specs.declared.query.StoredJoin.{StoredJoin}
 use Rattle.vocabulary.specs.declared.query.StoredPair.{StoredPair}
 use Rattle.text.specs.Lines.{OrderLine, orderLine, JoinLine, joinLine, conditionLine, kindOf, TableLine, tableLine, rowLine}
@@ -102,15 +102,22 @@ joins-kept j (conditionLine c ∷ ls) =
 pub tables-count : (t : Tables) (ls : List TableLine) → (tablesAfter t ls) .count ≡ t .count + length (tablesOf ls)
 unfolding tablesAfter tablesOf afterTable afterRow
 tables-count t [] = sym (add-zero (t .count))
-tables-count t (tableLine n ∷ ls) = let h = tables-count (afterTable t n) ls in omega arith
+tables-count t (tableLine n k ∷ ls) = let h = tables-count (afterTable t n (keyKept k)) ls in omega arith
 tables-count t (rowLine zs ∷ ls) = tables-count (afterRow t (length zs)) ls
 
 pub columns-kept : (t : Tables) (ls : List TableLine)
     → (tablesAfter t ls) .layout .columns ≡ sets (t .layout .columns) (t .count) (map (λ (x : Table). x .columns) (tablesOf ls))
 unfolding tablesAfter tablesOf afterTable afterRow closedRows openedTable
 columns-kept t [] = refl
-columns-kept t (tableLine n ∷ ls) = columns-kept (afterTable t n) ls ∙ rw (add-one (t .count))
+columns-kept t (tableLine n k ∷ ls) = columns-kept (afterTable t n (keyKept k)) ls ∙ rw (add-one (t .count))
 columns-kept t (rowLine zs ∷ ls) = columns-kept (afterRow t (length zs)) ls
+
+pub keys-kept : (t : Tables) (ls : List TableLine)
+    → (tablesAfter t ls) .«key_columns» ≡ sets (t .«key_columns») (t .count) (map (λ (x : Table). keyKept (x .keyColumn)) (tablesOf ls))
+unfolding tablesAfter tablesOf afterTable afterRow
+keys-kept t [] = refl
+keys-kept t (tableLine n k ∷ ls) = keys-kept (afterTable t n (keyKept k)) ls ∙ rw (add-one (t .count))
+keys-kept t (rowLine zs ∷ ls) = keys-kept (afterRow t (length zs)) ls
 
 pub rows-kept : (t : Tables) (ls : List TableLine)
     → set ((tablesAfter t ls) .layout .rows) ((tablesAfter t ls) .count - 1) ((tablesAfter t ls) .rows)
@@ -118,9 +125,9 @@ pub rows-kept : (t : Tables) (ls : List TableLine)
     (map (λ (x : Table). length (x .rows)) (tablesOf ls))
 unfolding tablesAfter tablesOf firstRows afterTable afterRow closedRows openedTable
 rows-kept t [] = rw (add-zero (t .rows))
-rows-kept t (tableLine n ∷ ls) =
+rows-kept t (tableLine n k ∷ ls) =
     let e : t .count + 1 - 1 ≡ t .count = omega arith in
-    rows-kept (afterTable t n) ls ∙ rw (e, add-one (t .count), zero-add (length (firstRows ls)), add-zero (t .rows))
+    rows-kept (afterTable t n (keyKept k)) ls ∙ rw (e, add-one (t .count), zero-add (length (firstRows ls)), add-zero (t .rows))
 rows-kept t (rowLine zs ∷ ls) =
     let e : t .rows + 1 + length (firstRows ls) ≡ t .rows + suc (length (firstRows ls)) = omega arith in
     rows-kept (afterRow t (length zs)) ls ∙ rw e

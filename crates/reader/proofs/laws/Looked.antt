@@ -3,6 +3,7 @@
 use mathlib.Core.Path.{_≡_, ap, _∙_, refl, sym}
 use mathlib.Core.Bool.{true, Bool, false}
 use mathlib.Core.List.{List, _∷_, [], _++_, append-assoc, map}
+use mathlib.Core.Option.{none}
 use Prim.Native.Nat.{ℕ, zero, suc, _<_, _+_, _*_, _≤_, _-_}
 use native.Mathlib.Nat.{zero-mul, suc-mul, zero-add}
 use native.Mathlib.Omega.{arith}
@@ -18,6 +19,7 @@ use Rattle.cells.specs.Condition.{ownCell, cellsIn}
 use Rattle.cells.specs.declared.condition.Layout.{Layout}
 use Rattle.rows.specs.Lists.{all}
 use Rattle.vocabulary.specs.Report.{Table}
+use Rattle.vocabulary.specs.inner.Stored.{keyKept}
 use Rattle.text.specs.Lines.{Line}
 use Rattle.text.specs.LineParts.{tableLines}
 use Rattle.text.proofs.laws.ReadingLaws.{earlyRows}
@@ -27,7 +29,7 @@ use Rattle.reader.proofs.laws.FlatCells.{flatCells, flatTables}
 use Rattle.reader.specs.inner.State.{noTables, closedRows}
 use Rattle.reader.specs.inner.Survey.{start}
 use Rattle.reader.specs.inner.Agrees.{linesAfter}
-use Rattle.reader.proofs.laws.KeptLaws.{columns-kept, rows-kept}
+use Rattle.reader.proofs.laws.KeptLaws.{columns-kept, keys-kept, rows-kept}
 use Rattle.reader.proofs.laws.Counts.{offsetsFrom, cellsWritten, offsets-kept}
 use Rattle.reader.proofs.laws.QueryLaws.{sets-take, done}
 use Rattle.reader.specs.inner.Query.{storedOf}
@@ -91,7 +93,7 @@ flat-length [] = refl
 flat-length (zs ∷ rows) = length-append zs (flatCells rows) ∙ ap (λ (n : ℕ). length zs + n) (flat-length rows)
 
 unfoldable pub noTable : Table
-noTable = record { columns = 0; rows = [] }
+noTable = record { columns = 0; keyColumn = none; rows = [] }
 
 pub own-cells : (before : List ℤ) (ts : List Table) (more : List ℤ) (t : ℕ) → t < length ts
     → (rest : List ℤ) × (drop (getD (offsetsFrom (length before) ts) t 0) (before ++ (flatTables ts ++ more)) ≡ flatCells ((getD ts t noTable) .rows) ++ rest)
@@ -155,6 +157,15 @@ module _ (ls : List Line) (early : earlyRows ls ≡ []) (fits : length (tablesIn
       ap (λ (x : List ℕ). getD x t 0) (rows-kept noTables (tableLines ls))
       ∙ sets-at (set (replicate mostTables 0) (0 - 1) (0 + length (earlyRows ls))) (map (λ (x : Table). length (x .rows)) ts) t 0 (omega arith) (omega arith)
       ∙ List·getD-map (λ (x : Table). length (x .rows)) ts t noTable
+
+  -- a table's key column
+  pub key-at : getD (done ls .tables .«key_columns») t 0 ≡ keyKept (table .keyColumn)
+  unfolding linesAfter start noTables noTable keyKept
+  key-at =
+      let n : length (map (λ (x : Table). keyKept (x .keyColumn)) ts) ≡ length ts = length-map ts (λ (x : Table). keyKept (x .keyColumn)) in
+      ap (λ (x : List ℕ). getD x t 0) (keys-kept noTables (tableLines ls))
+      ∙ sets-at (replicate mostTables 0) (map (λ (x : Table). keyKept (x .keyColumn)) ts) t 0 (omega arith) (omega arith)
+      ∙ List·getD-map (λ (x : Table). keyKept (x .keyColumn)) ts t noTable
 
   -- the cells that the layout and the cell buffer hold of a table are the table's
   pub cells-looked : (more : List ℤ) (row column : ℕ) → Wide (table .columns) (table .rows)

@@ -29,9 +29,13 @@ use Rattle.reader.specs.inner.Outcome.{TextOutcome, says, turnedDown, li
 
 -- ---- by what the pass over the lines leaves
 
+-- what a reading says
+abbrev readingSays : Reading → TextOutcome
+readingSays s = says (storedOf s) (s .tables .«key_columns»)
+
 -- questions 3 and 4 of a reading
 unfoldable pub readingOutcome : Reading → TextOutcome
-readingOutcome s = if tablesFit (s .tables) then (if s .tables .even then says (storedOf s) else turnedDown 4) else turnedDown 3
+readingOutcome s = if tablesFit (s .tables) then (if s .tables .even then readingSays s else turnedDown 4) else turnedDown 3
 
 unfoldable pub surveyOutcome : Option Reading → TextOutcome
 surveyOutcome none = turnedDown 2
@@ -53,7 +57,7 @@ outcome-same bs = ap surveyOutcome (survey-reads bs) ∙ go (textLines bs) refl
     go none e = refl
     go (some ls) e =
         let n = no-early-row bs ls e in
-        let x : TextOutcome = says (storedOf (linesAfter start ls)) in
+        let x : TextOutcome = readingSays (linesAfter start ls) in
         ap₂ (λ (a b : Bool). if a then (if b then x else turnedDown 4) else turnedDown 3) (answer-3 ls n) (answer-4 ls n)
         ∙ asked (question3 (reportOf ls)) (question4 (reportOf ls)) x
 
@@ -87,16 +91,17 @@ module _ (bs : Bytes) (r : Stepped) (e : stepIn r ≡ surveyOf bs) where
       g ∙ ap surveyOutcome (accepted h) ∙ outcome-same bs
 
   pub outcome-says : {t : Bool} {q : StoredQuery} → r .accepted ≡ true → t ≡ tablesFit (r .reading .tables) → t ≡ true
-      → r .reading .tables .even ≡ true → q ≡ storedOf (r .reading) → says q ≡ readOutcome bs
+      → r .reading .tables .even ≡ true → q ≡ storedOf (r .reading) → says q (r .reading .tables .«key_columns») ≡ readOutcome bs
   unfolding surveyOutcome readingOutcome
   outcome-says {t} {q} h f k n p =
-      ap says p ∙ sym (both-passed (tablesFit (r .reading .tables)) (r .reading .tables .even) (says (storedOf (r .reading))) (sym f ∙ k) n)
+      ap (λ (s : StoredQuery). says s (r .reading .tables .«key_columns»)) p
+      ∙ sym (both-passed (tablesFit (r .reading .tables)) (r .reading .tables .even) (readingSays (r .reading)) (sym f ∙ k) n)
       ∙ ap surveyOutcome (accepted h) ∙ outcome-same bs
 
 -- ---- the cell buffer
 
 pub cells-refused : (bs : Bytes) (n : ℕ) (before after : List ℤ) → turnedDown n ≡ readOutcome bs → length after ≡ length before → CellsAfter bs before after
-cells-refused bs n before after e k = record { kept = k; begins = λ q p. clash (let z : turnedDown n ≡ says q = e ∙ sym p in cc) }
+cells-refused bs n before after e k = record { kept = k; begins = λ q keys p. clash (let z : turnedDown n ≡ says q keys = e ∙ sym p in cc) }
 
 pub cells-accepted : (bs : Bytes) (before after : List ℤ) → length after ≡ length before → Begins after (textCells bs) → CellsAfter bs before after
-cells-accepted bs before after k h = record { kept = k; begins = λ q p. h }
+cells-accepted bs before after k h = record { kept = k; begins = λ q keys p. h }

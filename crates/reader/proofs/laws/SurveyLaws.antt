@@ -78,7 +78,7 @@ line-told p t j cs q x {p′} {t′} {j′} {cs′} {q′} e a b c d =
 -- the array of conditions with the line's condition at its place, or as it is where that is past the end
 pub slot-taken : (n : ℕ) (cs : List Condition) (x : LineRead) {ds : List Condition} {k : ℕ} {c : Condition} → k ≡ conditionPlace n x → c ≡ conditionIn x
     → k < mostConditions → ds ≡ set cs k c → ds ≡ conditionsTold n cs x
-slot-taken n cs (R.Table i) e g h d = absurd (omega arith)
+slot-taken n cs (R.Table i w) e g h d = absurd (omega arith)
 slot-taken n cs (R.Row i) e g h d = absurd (omega arith)
 slot-taken n cs (R.Join i a b) e g h d = absurd (omega arith)
 slot-taken n cs (R.Condition c) e g h d = d ∙ rw (e, g)
@@ -87,7 +87,7 @@ slot-taken n cs R.NoForm e g h d = absurd (omega arith)
 
 pub slot-past : (n : ℕ) (cs : List Condition) (x : LineRead) {ds : List Condition} {k : ℕ} → k ≡ conditionPlace n x → length cs ≡ mostConditions
     → mostConditions ≤ k → ds ≡ cs → ds ≡ conditionsTold n cs x
-slot-past n cs (R.Table i) e l h d = d
+slot-past n cs (R.Table i w) e l h d = d
 slot-past n cs (R.Row i) e l h d = d
 slot-past n cs (R.Join i a b) e l h d = d
 slot-past n cs (R.Condition c) e l h d = d ∙ sym (set-out cs n c (omega arith))
@@ -104,7 +104,7 @@ pub told-room : (n : ℕ) (cs : List Condition) (x : LineRead) {ds : List Condit
 told-room n cs x e l = ap length e ∙ go x ∙ l
   where
     go : (x : LineRead) → length (conditionsTold n cs x) ≡ length cs
-    go (R.Table i) = refl
+    go (R.Table i w) = refl
     go (R.Row i) = refl
     go (R.Join i a b) = refl
     go (R.Condition c) = length-set cs n c
@@ -183,7 +183,7 @@ bounded-start s e = rw e (omega arith, omega arith, omega arith, omega arith, om
 
 bounded-told : (m n : ℕ) (s : Reading) (x : LineRead) → Bounded m s → m < n → Bounded n (told s x)
 unfolding afterTable afterRow afterJoin afterCondition oneMore afterPair
-bounded-told m n s (R.Table k) b h = (omega arith, omega arith, omega arith, omega arith, omega arith, omega arith)
+bounded-told m n s (R.Table k w) b h = (omega arith, omega arith, omega arith, omega arith, omega arith, omega arith)
 bounded-told m n s (R.Row k) b h = (omega arith, omega arith, omega arith, omega arith, omega arith, omega arith)
 bounded-told m n s (R.Join k a d) b h = (omega arith, omega arith, omega arith, omega arith, omega arith, omega arith)
 bounded-told m n s (R.Condition c) b h = (omega arith, omega arith, omega arith, omega arith, omega arith, omega arith)

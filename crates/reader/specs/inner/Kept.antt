@@ -3,6 +3,7 @@ use mathlib.Core.List.{List, [], _∷_}
 use Prim.Native.Nat.{ℕ, _+_}
 use lib.ListN.{length, set}
 use Rattle.cells.specs.declared.condition.Condition.{Condition}
+use Rattle.vocabulary.specs.inner.Stored.{keyKept}
 use Rattle.text.specs.Lines.{TableLine, tableLine, rowLine, JoinLine, joinLine, conditionLine, kindOf, OrderLine, orderLine}
 use Rattle.reader.specs.inner.State.{afterTable, afterRow, afterJoin, afterCondition, afterPair}
 use Rattle.reader.specs.declared.tables.Tables.{Tables}
@@ -11,7 +12,7 @@ use Rattle.reader.specs.declared.pairs.Pairs.{Pairs}
 
 unfoldable pub tablesAfter : Tables → List TableLine → Tables
 tablesAfter t [] = t
-tablesAfter t (tableLine n ∷ ls) = tablesAfter (afterTable t n) ls
+tablesAfter t (tableLine n k ∷ ls) = tablesAfter (afterTable t n (keyKept k)) ls
 tablesAfter t (rowLine zs ∷ ls) = tablesAfter (afterRow t (length zs)) ls
 
 unfoldable pub joinsAfter : Joins → List JoinLine → Joins

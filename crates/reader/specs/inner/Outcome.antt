@@ -21,22 +21,26 @@ use Rattle.reader.specs.declared.read.ReadAnswer.{ReadAnswer}
 use Rattle.reader.specs.declared.read.ReadOutcome.{ReadOutcome}
 use Rattle.reader.specs.declared.read.ReadOutcome.the-variants as O
 
--- the number of the question that turned the text down, or the query that it says. Specification 9.1
+-- the number of the question that turned the text down, or the query that it says and the key columns of its tables. Specification 9.1
 pub data TextOutcome : Type 0 where
   turnedDown : ℕ → TextOutcome
-  says : StoredQuery → TextOutcome
+  says : StoredQuery → List ℕ → TextOutcome
 
-abbrev outcomeIn : ReadOutcome → StoredQuery → TextOutcome
-outcomeIn (O.Refused n) q = turnedDown n
-outcomeIn O.Accepted q = says q
+abbrev outcomeIn : ReadOutcome → StoredQuery → List ℕ → TextOutcome
+outcomeIn (O.Refused n) q keys = turnedDown n
+outcomeIn O.Accepted q keys = says q keys
 
 -- what an answer says
 abbrev pub answerIn : ReadAnswer → TextOutcome
-answerIn a = outcomeIn (a .outcome) (a .query)
+answerIn a = outcomeIn (a .outcome) (a .query) (a .«key_columns»)
+
+-- what lines say that stand in their places
+abbrev pub linesSay : List Line → TextOutcome
+linesSay ls = says (storedOf (linesAfter start ls)) (linesAfter start ls .tables .«key_columns»)
 
 -- what the tables are asked, of lines that stand in their places. Specification 9.5, 9.6
 unfoldable pub linesOutcome : List Line → TextOutcome
-linesOutcome ls = elim (firstNo tableQuestions (reportOf ls)) [ some n ↦ turnedDown n | none ↦ says (storedOf (linesAfter start ls)) ]
+linesOutcome ls = elim (firstNo tableQuestions (reportOf ls)) [ some n ↦ turnedDown n | none ↦ linesSay ls ]
 
 unfoldable pub outcomeOf : Option (List Line) → TextOutcome
 outcomeOf none = turnedDown 2
@@ -49,4 +53,4 @@ readOutcome bs = outcomeOf (textLines bs)
 -- the cell buffer: it is as long as it was; it begins with the text's cells where the text passes questions 2 to 4
 pub record CellsAfter (bs : Bytes) (before after : List ℤ) : Type 0 where
   pub kept : length after ≡ length before
-  pub begins : (q : StoredQuery) → says q ≡ readOutcome bs → Begins after (textCells bs)
+  pub begins : (q : StoredQuery) (keys : List ℕ) → says q keys ≡ readOutcome bs → Begins after (textCells bs)

@@ -22,6 +22,7 @@ unfoldable pub noTables : Tables
 noTables = record {
   count = 0;
   layout = record { offsets = replicate mostTables 0; rows = replicate mostTables 0; columns = replicate mostTables 0 };
+  «key_columns» = replicate mostTables 0;
   columns = 0;
   rows = 0;
   cells = 0;
@@ -42,10 +43,12 @@ unfoldable pub openedTable : Layout → ℕ → ℕ → ℕ → Layout
 openedTable l count offset columns =
     record { offsets = set (l .offsets) count offset; rows = l .rows; columns = set (l .columns) count columns }
 
-unfoldable pub afterTable : Tables → ℕ → Tables
-afterTable s n = record {
+-- k is the table's key column, as it is kept
+unfoldable pub afterTable : Tables → ℕ → ℕ → Tables
+afterTable s n k = record {
   count = s .count + 1;
   layout = openedTable (closedRows (s .layout) (s .count) (s .rows)) (s .count) (s .cells) n;
+  «key_columns» = set (s .«key_columns») (s .count) k;
   columns = n;
   rows = 0;
   cells = s .cells;
@@ -61,6 +64,7 @@ unfoldable pub afterRow : Tables → ℕ → Tables
 afterRow s n = record {
   count = s .count;
   layout = s .layout;
+  «key_columns» = s .«key_columns»;
   columns = s .columns;
   rows = s .rows + 1;
   cells = cellsAfter (s .cells) n;
@@ -73,6 +77,7 @@ abbrev pub withTableCounts : Tables → ℕ → ℕ → Bool → Tables
 withTableCounts s rows cells even = record {
   count = s .count;
   layout = s .layout;
+  «key_columns» = s .«key_columns»;
   columns = s .columns;
   rows = rows;
   cells = cells;

@@ -36,7 +36,7 @@ unfoldable pub followsAt : Place → ℕ → Option Place
 followsAt p n = if eqb (p .part) n then some (record { part = n }) else none
 
 abbrev pub nextRead : Place → LineRead → Option Place
-nextRead p (R.Table n) = opensAt p 1
+nextRead p (R.Table n k) = opensAt p 1
 nextRead p (R.Row n) = followsAt p 1
 nextRead p (R.Join k a b) = opensAt p 2
 nextRead p (R.Condition c) = followsAt p 2
@@ -59,7 +59,7 @@ withTables s t = record { place = s .place; tables = t; joins = s .joins; condit
 
 -- the tables, the joins and the pairs with what a line says
 abbrev pub tablesTold : Tables → LineRead → Tables
-tablesTold t (R.Table n) = afterTable t n
+tablesTold t (R.Table n k) = afterTable t n k
 tablesTold t (R.Row n) = afterRow t n
 tablesTold t (R.Join k a b) = t
 tablesTold t (R.Condition c) = t
@@ -67,7 +67,7 @@ tablesTold t (R.Order a b) = t
 tablesTold t R.NoForm = t
 
 abbrev pub joinsTold : Joins → LineRead → Joins
-joinsTold j (R.Table n) = j
+joinsTold j (R.Table n k) = j
 joinsTold j (R.Row n) = j
 joinsTold j (R.Join k a b) = afterJoin j k a b
 joinsTold j (R.Condition c) = afterCondition j
@@ -76,7 +76,7 @@ joinsTold j R.NoForm = j
 
 -- a line's place among the conditions, behind a count of them, and its condition
 abbrev pub conditionPlace : ℕ → LineRead → ℕ
-conditionPlace n (R.Table k) = mostConditions
+conditionPlace n (R.Table k w) = mostConditions
 conditionPlace n (R.Row k) = mostConditions
 conditionPlace n (R.Join k a b) = mostConditions
 conditionPlace n (R.Condition c) = n
@@ -84,7 +84,7 @@ conditionPlace n (R.Order a b) = mostConditions
 conditionPlace n R.NoForm = mostConditions
 
 abbrev pub conditionIn : LineRead → Condition
-conditionIn (R.Table k) = nothing
+conditionIn (R.Table k w) = nothing
 conditionIn (R.Row k) = nothing
 conditionIn (R.Join k a b) = nothing
 conditionIn (R.Condition c) = c
@@ -93,7 +93,7 @@ conditionIn R.NoForm = nothing
 
 -- the conditions with what a line says, behind a count of them
 abbrev pub conditionsTold : ℕ → List Condition → LineRead → List Condition
-conditionsTold n cs (R.Table k) = cs
+conditionsTold n cs (R.Table k w) = cs
 conditionsTold n cs (R.Row k) = cs
 conditionsTold n cs (R.Join k a b) = cs
 conditionsTold n cs (R.Condition c) = set cs n c
@@ -101,7 +101,7 @@ conditionsTold n cs (R.Order a b) = cs
 conditionsTold n cs R.NoForm = cs
 
 abbrev pub pairsTold : Pairs → LineRead → Pairs
-pairsTold p (R.Table n) = p
+pairsTold p (R.Table n k) = p
 pairsTold p (R.Row n) = p
 pairsTold p (R.Join k a b) = p
 pairsTold p (R.Condition c) = p

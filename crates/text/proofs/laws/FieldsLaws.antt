@@ -11,12 +11,13 @@ use lib.Seq.{getD-take, getD-drop}
 use native.Mathlib.Nat.{add-zero}
 use borrow.Author.Tests.{ne-eqb}
 use Rattle.rows.specs.declared.kind.Kind.the-variants.{Inner, Outer}
+use Rattle.vocabulary.specs.inner.Stored.{keyKept}
 use Rattle.text.specs.Bytes.{Bytes, tab, bytes, sameBytes}
-use Rattle.text.specs.Lines.{field, numberField, oneOf, innerJoin, leftOuterJoin, kindOf, kindField}
+use Rattle.text.specs.Lines.{field, numberField, oneOf, innerJoin, leftOuterJoin, kindOf, kindField, optional}
 use Rattle.text.proofs.laws.RangesLaws.{same-one, differ-one, differ-length}
 use Rattle.text.specs.inner.Parts.{until, fieldsFrom}
 use Rattle.text.proofs.laws.PartsLaws.{field-here, fields-none}
-use Rattle.text.specs.inner.Fields.{secondOf, bothOf, pairField, operatorRead, storedKind}
+use Rattle.text.specs.inner.Fields.{secondOf, bothOf, pairField, operatorRead, keptAs, storedKind, storedKey}
 
 -- ---- a field at a place
 
@@ -136,7 +137,7 @@ module _ (l : Bytes) (at to : ℕ) (h : at ≤ length l) (e : to ≡ at + until 
   part-first k = rw (getD-take (to - at) (drop at l) 0 0 (omega arith), getD-drop at l 0 0, add-zero at)
 
   pub kind-long : to ≤ length l → (to ≡ at + 1 → ⊥) → none ≡ storedKind (kindField (fieldsFrom l at))
-  unfolding storedKind kindField oneOf bytes
+  unfolding keptAs kindField oneOf bytes
   kind-long k n =
       let m : length (take (to - at) (drop at l)) ≡ 1 → ⊥ = λ q. n (omega (arith, part-length k)) in
       ap storedKind (field-bad (oneOf (("I", innerJoin) ∷ ("L", leftOuterJoin) ∷ [])) l at to h e
@@ -144,7 +145,7 @@ module _ (l : Bytes) (at to : ℕ) (h : at ≤ length l) (e : to ≡ at + until 
 
   pub kind-inner : to ≤ length l → to ≡ at + 1 → getD l at 0 ≡ 73
       → some (Inner, fieldsFrom l (to + 1)) ≡ storedKind (kindField (fieldsFrom l at))
-  unfolding storedKind kindField oneOf bytes kindOf
+  unfolding keptAs kindField oneOf bytes kindOf
   kind-inner k n b =
       let m : length (take (to - at) (drop at l)) ≡ 1 = part-length k ∙ omega arith in
       ap storedKind (field-some (oneOf (("I", innerJoin) ∷ ("L", leftOuterJoin) ∷ [])) l at to {a = innerJoin} h e
@@ -152,7 +153,7 @@ module _ (l : Bytes) (at to : ℕ) (h : at ≤ length l) (e : to ≡ at + until 
 
   pub kind-left : to ≤ length l → to ≡ at + 1 → getD l at 0 ≡ 76
       → some (Outer, fieldsFrom l (to + 1)) ≡ storedKind (kindField (fieldsFrom l at))
-  unfolding storedKind kindField oneOf bytes kindOf
+  unfolding keptAs kindField oneOf bytes kindOf
   kind-left k n b =
       let m : length (take (to - at) (drop at l)) ≡ 1 = part-length k ∙ omega arith in
       let d : getD (take (to - at) (drop at l)) 0 0 ≡ 73 → ⊥ = λ q. omega (arith, part-first n) in
@@ -161,7 +162,7 @@ module _ (l : Bytes) (at to : ℕ) (h : at ≤ length l) (e : to ≡ at + until 
 
   pub kind-other : to ≡ at + 1 → (getD l at 0 ≡ 73 → ⊥) → (getD l at 0 ≡ 76 → ⊥)
       → none ≡ storedKind (kindField (fieldsFrom l at))
-  unfolding storedKind kindField oneOf bytes
+  unfolding keptAs kindField oneOf bytes
   kind-other n a b =
       let d : getD (take (to - at) (drop at l)) 0 0 ≡ 73 → ⊥ = λ q. a (omega (arith, part-first n)) in
       let g : getD (take (to - at) (drop at l)) 0 0 ≡ 76 → ⊥ = λ q. b (omega (arith, part-first n)) in
@@ -169,5 +170,31 @@ module _ (l : Bytes) (at to : ℕ) (h : at ≤ length l) (e : to ≡ at + until 
       (rw (differ-one (take (to - at) (drop at l)) 73 d, differ-one (take (to - at) (drop at l)) 76 g)))
 
 pub kind-past : (l : Bytes) (at : ℕ) → length l < at → none ≡ storedKind (kindField (fieldsFrom l at))
-unfolding storedKind kindField
+unfolding keptAs kindField
 kind-past l at h = ap storedKind (field-past (oneOf (("I", innerJoin) ∷ ("L", leftOuterJoin) ∷ [])) l at h)
+
+-- ---- a key column
+
+module _ (l : Bytes) (at : ℕ) where
+  pub key-past : length l < at → some (0, fieldsFrom l at) ≡ storedKey (optional numberField (fieldsFrom l at))
+  unfolding keptAs keyKept optional
+  key-past h = rw (fields-none l at h)
+
+  -- a field that is there has the form
+  key-there : at ≤ length l → optional numberField (fieldsFrom l at) ≡ keptAs some (numberField (fieldsFrom l at))
+  unfolding keptAs optional
+  key-there h = rw (field-here l at (at + until tab (drop at l)) refl h) (go (numberField _))
+    where
+      go : (o : Option (ℕ × List Bytes))
+          → _≡_ {A = Option (Option ℕ × List Bytes)} (elim o [ none ↦ none | some r ↦ some (some (r .0), r .1) ]) (keptAs some o)
+      go none = refl
+      go (some r) = refl
+
+  pub key-bad : at ≤ length l → none ≡ numberField (fieldsFrom l at) → none ≡ storedKey (optional numberField (fieldsFrom l at))
+  unfolding keptAs
+  key-bad h e = rw (key-there h, ← e)
+
+  pub key-some : {c : ℕ} {gs : List Bytes} → at ≤ length l → some (c, gs) ≡ numberField (fieldsFrom l at)
+      → some (c + 1, gs) ≡ storedKey (optional numberField (fieldsFrom l at))
+  unfolding keptAs keyKept
+  key-some h e = rw (key-there h, ← e)

@@ -10,13 +10,14 @@ use lib.Signed.{mag}
 use lib.ListN.{length, drop, take}
 use Rattle.cells.specs.declared.condition.Side.the-variants.{Column, Constant}
 use Rattle.rows.specs.declared.kind.Kind.{Kind}
+use Rattle.vocabulary.specs.inner.Stored.{keyKept}
 use Rattle.text.specs.Bytes.{Bytes, tab}
 use Rattle.text.specs.Numbers.{constant, cell}
-use Rattle.text.specs.Lines.{Form, _>>=_, numberField, end, TableLine, tableLine, OrderLine, orderLine, tablesPart, orderPart, JoinKind, kindOf, JoinLine, joinLine, joinsPart, kindField, conditionLine, field, operatorField, cellFields, readAll, rowLine, both}
+use Rattle.text.specs.Lines.{Form, _>>=_, numberField, optional, end, TableLine, tableLine, OrderLine, orderLine, tablesPart, orderPart, JoinKind, kindOf, JoinLine, joinLine, joinsPart, kindField, conditionLine, field, operatorField, cellFields, readAll, rowLine, both}
 use Rattle.text.specs.inner.Parts.{until, fieldsFrom}
 use Rattle.text.proofs.laws.PartsLaws.{field-here, fields-none}
 use Rattle.text.proofs.laws.RangesLaws.{constant-fits}
-use Rattle.text.specs.inner.Fields.{pairField, bothOf, secondOf, storedKind}
+use Rattle.text.specs.inner.Fields.{pairField, bothOf, secondOf, keptAs, storedKind, storedKey}
 use Rattle.text.proofs.laws.FieldsLaws.{fieldOf, field-cons}
 use Rattle.text.specs.declared.line.LineRead.{LineRead}
 use Rattle.text.specs.declared.line.LineRead.the-variants as R
@@ -89,18 +90,9 @@ module _ {A : Type 0} (a : A) (l : Bytes) (at : ℕ) where
   unfolding end
   end-more h = rw (field-here l at (at + until tab (drop at l)) refl h)
 
--- ---- T, J, C, K and P lines
+-- ---- P, T, J, C and K lines
 
 module _ (fs : List Bytes) where
-  pub table-none : none ≡ numberField fs → R.NoForm ≡ formRead tablesPart (tableForm fs)
-  unfolding tableForm
-  table-none e = ap (formRead tablesPart) (then-none numberField (λ n. end (tableLine n)) fs e)
-
-  pub table-end : {n : ℕ} {gs : List Bytes} {o : Option (TableLine × List Bytes)} → some (n, gs) ≡ numberField fs
-      → o ≡ end (tableLine n) gs → formRead tablesPart o ≡ formRead tablesPart (tableForm fs)
-  unfolding tableForm
-  table-end e g = ap (formRead tablesPart) (g ∙ then-some numberField (λ n. end (tableLine n)) fs e)
-
   pub order-none : none ≡ pairField fs → R.NoForm ≡ formRead orderPart (orderForm fs)
   unfolding orderForm
   order-none e = ap (formRead orderPart) (pair-none (λ a b. end (orderLine a b)) fs e)
@@ -110,19 +102,51 @@ module _ (fs : List Bytes) where
   unfolding orderForm
   order-end e g = ap (formRead orderPart) (g ∙ pair-some (λ a b. end (orderLine a b)) fs e)
 
--- the kind that is kept is that of the line
-kept-none : (o : Option (JoinKind × List Bytes)) → none ≡ storedKind o → none ≡ o
-unfolding storedKind
-kept-none none e = refl
-kept-none (some r) e = absurd (let z : _≡_ {A = ℕ} 0 1 = cc in omega arith)
+-- what is kept is what the line says
+module _ {A B : Type 0} (f : A → B) where
+  kept-none : (o : Option (A × List Bytes)) → none ≡ keptAs f o → none ≡ o
+  unfolding keptAs
+  kept-none none e = refl
+  kept-none (some r) e = absurd (let z : _≡_ {A = ℕ} 0 1 = cc in omega arith)
 
-kept-some : (o : Option (JoinKind × List Bytes)) {k : Kind} {gs : List Bytes} → some (k, gs) ≡ storedKind o
-    → (j : JoinKind) × (k ≡ kindOf j) × (some (j, gs) ≡ o)
-unfolding storedKind
-kept-some none e = absurd (let z : _≡_ {A = ℕ} 0 1 = cc in omega arith)
-kept-some (some r) {k} {gs} e =
-    let p : _≡_ {A = Kind × List Bytes} (k, gs) (kindOf (r .0), r .1) = cc in
-    (r .0, ap (λ (x : Kind × List Bytes). x .0) p, ap (λ (x : List Bytes). some (r .0, x)) (ap (λ (x : Kind × List Bytes). x .1) p))
+  kept-some : (o : Option (A × List Bytes)) {k : B} {gs : List Bytes} → some (k, gs) ≡ keptAs f o
+      → (j : A) × (k ≡ f j) × (some (j, gs) ≡ o)
+  unfolding keptAs
+  kept-some none e = absurd (let z : _≡_ {A = ℕ} 0 1 = cc in omega arith)
+  kept-some (some r) {k} {gs} e =
+      let p : _≡_ {A = B × List Bytes} (k, gs) (f (r .0), r .1) = cc in
+      (r .0, ap (λ (x : B × List Bytes). x .0) p, ap (λ (x : List Bytes). some (r .0, x)) (ap (λ (x : B × List Bytes). x .1) p))
+
+-- what follows the count of a T line
+abbrev pub keyed : ℕ → Form TableLine
+keyed n = optional numberField >>= λ k. end (tableLine n k)
+
+module _ (fs : List Bytes) where
+  pub table-none : none ≡ numberField fs → R.NoForm ≡ formRead tablesPart (tableForm fs)
+  unfolding tableForm
+  table-none e = ap (formRead tablesPart) (then-none numberField keyed fs e)
+
+  pub table-no-key : {n : ℕ} {gs : List Bytes} → some (n, gs) ≡ numberField fs → none ≡ storedKey (optional numberField gs)
+      → R.NoForm ≡ formRead tablesPart (tableForm fs)
+  unfolding tableForm
+  table-no-key {n} {gs} e g =
+      ap (formRead tablesPart) (then-none (optional numberField) (λ k. end (tableLine n k)) gs (kept-none keyKept (optional numberField gs) g)
+      ∙ then-some numberField keyed fs e)
+
+  pub table-more : {n w : ℕ} {gs hs : List Bytes} → some (n, gs) ≡ numberField fs → some (w, hs) ≡ storedKey (optional numberField gs)
+      → ((k : Option ℕ) → none ≡ end (tableLine n k) hs) → R.NoForm ≡ formRead tablesPart (tableForm fs)
+  unfolding tableForm
+  table-more {n} {w} {gs} {hs} e g x =
+      let (k, h, i) = kept-some keyKept (optional numberField gs) g in
+      ap (formRead tablesPart) (x k ∙ then-some (optional numberField) (λ k. end (tableLine n k)) gs i ∙ then-some numberField keyed fs e)
+
+  pub table-end : {n w : ℕ} {gs hs : List Bytes} → some (n, gs) ≡ numberField fs → some (w, hs) ≡ storedKey (optional numberField gs)
+      → ((k : Option ℕ) → some (tableLine n k, []) ≡ end (tableLine n k) hs) → R.Table n w ≡ formRead tablesPart (tableForm fs)
+  unfolding tableForm
+  table-end {n} {w} {gs} {hs} e g x =
+      let (k, h, i) = kept-some keyKept (optional numberField gs) g in
+      ap (λ (y : ℕ). R.Table n y) h
+      ∙ ap (formRead tablesPart) (x k ∙ then-some (optional numberField) (λ k. end (tableLine n k)) gs i ∙ then-some numberField keyed fs e)
 
 abbrev sides : JoinKind → Form JoinLine
 sides j = numberField >>= λ a. numberField >>= λ b. end (joinLine j a b)
@@ -130,13 +154,13 @@ sides j = numberField >>= λ a. numberField >>= λ b. end (joinLine j a b)
 module _ (fs : List Bytes) where
   pub join-none : none ≡ storedKind (kindField fs) → R.NoForm ≡ formRead joinsPart (joinForm fs)
   unfolding joinForm
-  join-none e = ap (formRead joinsPart) (then-none kindField sides fs (kept-none (kindField fs) e))
+  join-none e = ap (formRead joinsPart) (then-none kindField sides fs (kept-none kindOf (kindField fs) e))
 
   pub join-no-sides : {k : Kind} {gs : List Bytes} → some (k, gs) ≡ storedKind (kindField fs) → none ≡ pairField gs
       → R.NoForm ≡ formRead joinsPart (joinForm fs)
   unfolding joinForm
   join-no-sides {k} {gs} e g =
-      let (j, h, i) = kept-some (kindField fs) e in
+      let (j, h, i) = kept-some kindOf (kindField fs) e in
       ap (formRead joinsPart) (pair-none (λ a b. end (joinLine j a b)) gs g ∙ then-some kindField sides fs i)
 
   pub join-more : {k : Kind} {a b : ℕ} {gs hs : List Bytes} → some (k, gs) ≡ storedKind (kindField fs)
@@ -144,7 +168,7 @@ module _ (fs : List Bytes) where
       → R.NoForm ≡ formRead joinsPart (joinForm fs)
   unfolding joinForm
   join-more {k} {a} {b} {gs} {hs} e g x =
-      let (j, h, i) = kept-some (kindField fs) e in
+      let (j, h, i) = kept-some kindOf (kindField fs) e in
       ap (formRead joinsPart) (x j ∙ pair-some (λ a b. end (joinLine j a b)) gs g ∙ then-some kindField sides fs i)
 
   pub join-end : {k : Kind} {a b : ℕ} {gs hs : List Bytes} → some (k, gs) ≡ storedKind (kindField fs)
@@ -152,7 +176,7 @@ module _ (fs : List Bytes) where
       → R.Join k a b ≡ formRead joinsPart (joinForm fs)
   unfolding joinForm
   join-end {k} {a} {b} {gs} {hs} e g x =
-      let (j, h, i) = kept-some (kindField fs) e in
+      let (j, h, i) = kept-some kindOf (kindField fs) e in
       ap (λ (y : Kind). R.Join y a b) h
       ∙ ap (formRead joinsPart) (x j ∙ pair-some (λ a b. end (joinLine j a b)) gs g ∙ then-some kindField sides fs i)
 

@@ -10,14 +10,14 @@ use lib.ListN.{length, getD, take, drop}
 use lib.Seq.{getD-take, length-take-le}
 use Rattle.cells.proofs.laws.BoolLaws.{clash}
 use Rattle.text.specs.Bytes.{Bytes, tab, split, bytes, sameBytes}
-use Rattle.text.specs.Lines.{TableLine, tableLine, JoinLine, joinLine, conditionLine, OrderLine, orderLine, rowLine, numberField, cellFields, end, Line, inPart, tablesPart, joinsPart, orderPart, field, oneOf, word, formT, formD, formJ, formC, formK, formP, firstOf, lineBy, lineOf, Form, _>>=_}
+use Rattle.text.specs.Lines.{TableLine, tableLine, JoinLine, joinLine, conditionLine, OrderLine, orderLine, rowLine, numberField, optional, cellFields, end, Line, inPart, tablesPart, joinsPart, orderPart, field, oneOf, word, formT, formD, formJ, formC, formK, formP, firstOf, lineBy, lineOf, Form, _>>=_}
 use Rattle.text.specs.inner.Parts.{until, fieldsFrom}
 use Rattle.text.proofs.laws.PartsLaws.{field-here, fields-all, until-within, take-first}
 use Rattle.text.proofs.laws.RangesLaws.{differ-one, differ-length}
 use Rattle.text.proofs.laws.FieldsLaws.{fieldOf, field-cons}
 use Rattle.text.specs.declared.line.LineRead.the-variants as R
 use Rattle.text.specs.inner.Forms.{given, tableForm, rowForm, joinForm, columnForm, constantForm, orderForm, lineRead, formRead}
-use Rattle.text.proofs.laws.FormsLaws.{handed, then-handed, then-none}
+use Rattle.text.proofs.laws.FormsLaws.{handed, then-handed, then-none, keyed}
 
 -- the fields of a line whose first field is one byte
 pub letter-fields : (l : Bytes) (to b : ℕ) → to ≡ 0 + until tab (drop 0 l) → to ≤ length l → to ≡ 1 → getD l 0 0 ≡ b
@@ -170,12 +170,13 @@ NotRow o = (n : ℕ) → lineRead o ≡ R.Row n → ⊥
 table-not-row : (fs : List Bytes) → NotRow (given tablesPart (formT fs))
 unfolding formT end
 table-not-row fs =
-    then-every (λ o. NotRow (given tablesPart o)) (word "T") (λ u. numberField >>= λ c. end (tableLine c)) fs (λ n e. clash cc)
-    (λ u gs. then-every (λ o. NotRow (given tablesPart o)) numberField (λ c. end (tableLine c)) gs (λ n e. clash cc) (λ c hs. ended c hs))
+    then-every (λ o. NotRow (given tablesPart o)) (word "T") (λ u. numberField >>= keyed) fs (λ n e. clash cc)
+    (λ u gs. then-every (λ o. NotRow (given tablesPart o)) numberField keyed gs (λ n e. clash cc)
+    (λ c hs. then-every (λ o. NotRow (given tablesPart o)) (optional numberField) (λ k. end (tableLine c k)) hs (λ n e. clash cc) (λ k is. ended c k is)))
   where
-    ended : (c : ℕ) (hs : List Bytes) → NotRow (given tablesPart (end (tableLine c) hs))
-    ended c [] n e = clash cc
-    ended c (h ∷ hs) n e = clash cc
+    ended : (c : ℕ) (k : Option ℕ) (is : List Bytes) → NotRow (given tablesPart (end (tableLine c k) is))
+    ended c k [] n e = clash cc
+    ended c k (i ∷ is) n e = clash cc
 
 tables-not-row : (o : Option (TableLine × List Bytes)) (other : Option Line) → NotRow (given tablesPart o) → NotRow other
     → NotRow (inPart tablesPart (chosen o none) other)

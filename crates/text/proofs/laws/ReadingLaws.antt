@@ -120,7 +120,7 @@ rest-placed p x ls h = go (next p x) refl h
 early-from : (p : Place) (ls : List Line) → (p .part ≡ 1 → ⊥) → placed p ls ≡ true → earlyRows ls ≡ []
 unfolding next follows picked also ofTables firstRows
 early-from p [] n h = refl
-early-from p (tablesPart (tableLine c) ∷ ls) n h = refl
+early-from p (tablesPart (tableLine c k) ∷ ls) n h = refl
 early-from p (tablesPart (rowLine zs) ∷ ls) n h =
     let (q, e, _) = rest-placed p (tablesPart (rowLine zs)) ls h in
     let z : none ≡ some q = rw (ne-eqb (p .part) 1 n) at e in clash cc

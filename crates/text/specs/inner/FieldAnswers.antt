@@ -16,6 +16,8 @@ use Rattle.text.specs.declared.field.OperatorAt.{OperatorAt}
 use Rattle.text.specs.declared.field.OperatorAt.the-variants as O
 use Rattle.text.specs.declared.field.KindAt.{KindAt}
 use Rattle.text.specs.declared.field.KindAt.the-variants as K
+use Rattle.text.specs.declared.field.KeyAt.{KeyAt}
+use Rattle.text.specs.declared.field.KeyAt.the-variants as Y
 use Rattle.text.specs.declared.field.ConstantAt.{ConstantAt}
 use Rattle.text.specs.declared.field.ConstantAt.the-variants as Z
 
@@ -43,6 +45,11 @@ operatorAt l O.Bad = none
 abbrev pub kindAt : Bytes → KindAt → Option (Kind × List Bytes)
 kindAt l (K.Value k next) = some (k, fieldsFrom l next)
 kindAt l K.Bad = none
+
+-- the field of a key column, as it is kept
+abbrev pub keyAt : Bytes → KeyAt → Option (ℕ × List Bytes)
+keyAt l (Y.Value k next) = some (k, fieldsFrom l next)
+keyAt l Y.Bad = none
 
 -- the field of a constant
 abbrev pub constantAt : Bytes → ConstantAt → Option (ℤ × List Bytes)

@@ -1,8 +1,9 @@
--- The fields of a line as the code reads them: operators, two numbers, and a join's kind as it is kept. Assumes nothing.
+-- The fields of a line as the code reads them: operators, two numbers, and a join's kind and a key column as they are kept. Assumes nothing.
 use mathlib.Core.List.{[], _∷_, List}
 use mathlib.Core.Option.{Option, none, some}
 use Prim.Native.Nat.{ℕ}
 use Rattle.rows.specs.declared.kind.Kind.{Kind}
+use Rattle.vocabulary.specs.inner.Stored.{keyKept}
 use Rattle.text.specs.Bytes.{Bytes}
 use Rattle.text.specs.Lines.{oneOf, numberField, Form, JoinKind, kindOf}
 
@@ -22,7 +23,15 @@ bothOf (some a) = secondOf (a .0) (numberField (a .1))
 unfoldable pub pairField : Form (ℕ × ℕ)
 pairField fs = bothOf (numberField fs)
 
+-- what a form says, as it is kept
+unfoldable pub keptAs : {A B : Type 0} → (A → B) → Option (A × List Bytes) → Option (B × List Bytes)
+keptAs f none = none
+keptAs f (some r) = some (f (r .0), r .1)
+
 -- a join's kind as it is kept
-unfoldable pub storedKind : Option (JoinKind × List Bytes) → Option (Kind × List Bytes)
-storedKind none = none
-storedKind (some k) = some (kindOf (k .0), k .1)
+abbrev pub storedKind : Option (JoinKind × List Bytes) → Option (Kind × List Bytes)
+storedKind = keptAs kindOf
+
+-- a key column as it is kept
+abbrev pub storedKey : Option (Option ℕ × List Bytes) → Option (ℕ × List Bytes)
+storedKey = keptAs keyKept

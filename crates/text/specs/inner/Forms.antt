@@ -3,16 +3,17 @@ use mathlib.Core.List.{List}
 use mathlib.Core.Option.{Option, none, some}
 use lib.ListN.{length}
 use Rattle.cells.specs.declared.condition.Side.the-variants.{Column, Constant}
+use Rattle.vocabulary.specs.inner.Stored.{keyKept}
 use Rattle.text.specs.Bytes.{Bytes}
 use Rattle.text.specs.Numbers.{constant}
-use Rattle.text.specs.Lines.{kindOf, tableLine, rowLine, joinLine, conditionLine, orderLine, Line, tablesPart, joinsPart, orderPart, TableLine, Form, _>>=_, _>>_, end, numberField, cellFields, JoinLine, kindField, operatorField, field, OrderLine}
+use Rattle.text.specs.Lines.{kindOf, tableLine, rowLine, joinLine, conditionLine, orderLine, Line, tablesPart, joinsPart, orderPart, TableLine, Form, _>>=_, _>>_, end, optional, numberField, cellFields, JoinLine, kindField, operatorField, field, OrderLine}
 use Rattle.text.specs.declared.line.LineRead.{LineRead}
 use Rattle.text.specs.declared.line.LineRead.the-variants as R
 
--- what the reading of a line says: of a D line, how many cells it has
+-- what the reading of a line says: of a T line, its key column as it is kept; of a D line, how many cells it has
 abbrev pub lineRead : Option Line → LineRead
 lineRead none = R.NoForm
-lineRead (some (tablesPart (tableLine n))) = R.Table n
+lineRead (some (tablesPart (tableLine n k))) = R.Table n (keyKept k)
 lineRead (some (tablesPart (rowLine zs))) = R.Row (length zs)
 lineRead (some (joinsPart (joinLine k l r))) = R.Join (kindOf k) l r
 lineRead (some (joinsPart (conditionLine c))) = R.Condition c
@@ -31,7 +32,8 @@ formRead part o = lineRead (given part o)
 unfoldable pub tableForm : Form TableLine
 tableForm = do
   n ← numberField
-  end (tableLine n)
+  k ← optional numberField
+  end (tableLine n k)
 
 unfoldable pub rowForm : Form TableLine
 rowForm = do

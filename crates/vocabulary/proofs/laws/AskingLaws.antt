@@ -4,11 +4,12 @@ use mathlib.Core.Logic.{_⊎_, inl, inr}
 use mathlib.Core.Bool.{Bool, true, false}
 use mathlib.Core.List.{List, _∷_, [], _++_}
 use mathlib.Core.Option.{Option, none, some}
-use Prim.Native.Nat.{ℕ}
-use lib.Dec.{T}
+use Prim.Native.Nat.{ℕ, _<_}
+use lib.Dec.{T, ltb}
+use mir.Facts.{ltb-yes}
 use Rattle.cells.proofs.laws.BoolLaws.{clash}
-use Rattle.rows.specs.Lists.{_isIn_}
-use Rattle.rows.proofs.laws.ListLaws.{here, there}
+use Rattle.rows.specs.Lists.{_isIn_, all}
+use Rattle.rows.proofs.laws.ListLaws.{here, there, all-elim}
 use Rattle.vocabulary.specs.Asking.{Question, firstNo, about, numbersOf}
 
 -- the first no of two lists, the second behind the first
@@ -105,3 +106,7 @@ module _ {A : Type 0} where
   unfolding firstNo about
   first-about part [] b = refl
   first-about part (q ∷ qs) b = ap (ifNo (q .1 (part b)) (q .0)) (first-about part qs b)
+
+-- no question of these has the number 0
+pub no-positive : {A : Type 0} (qs : List (Question A)) (a : A) (n : ℕ) → T (all (ltb 0) (numbersOf qs)) → firstNo qs a ≡ some n → 0 < n
+no-positive qs a n h e = ltb-yes (all-elim (ltb 0) (numbersOf qs) h n (no-number qs a n e))

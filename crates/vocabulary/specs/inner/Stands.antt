@@ -1,4 +1,4 @@
--- What is kept of a text, its query and its cells, stands for the report that the text says. Assumes nothing.
+-- What is kept of a text, its query, its cells and its key columns, stands for the report that the text says. Assumes nothing.
 use mathlib.Core.Path.{_≡_}
 use mathlib.Core.List.{List}
 use Prim.Native.Nat.{ℕ, _+_, _<_, _≤_}
@@ -8,8 +8,8 @@ use Rattle.cells.specs.Limits.{mostTables, mostJoins, mostConditions, mostPairs
 use Rattle.cells.specs.Condition.{Cells, cellsIn, trueIn}
 use Rattle.cells.specs.Row.{Row}
 use Rattle.vocabulary.specs.Report.{Report, noCondition, queryOf, tableCount, conditionAt}
-use Rattle.vocabulary.specs.Database.{rowCountIn, cellsOf}
-use Rattle.vocabulary.specs.inner.Stored.{queryIn}
+use Rattle.vocabulary.specs.Database.{tableAt, rowCountIn, cellsOf}
+use Rattle.vocabulary.specs.inner.Stored.{queryIn, keyKept}
 use Rattle.vocabulary.specs.declared.query.StoredJoin.{StoredJoin}
 use Rattle.vocabulary.specs.declared.query.StoredQuery.{StoredQuery}
 
@@ -36,3 +36,7 @@ pub record Stands (s : StoredQuery) (cells : List ℤ) (r : Report) : Type 0 whe
   -- the rows and the cells of the tables; of a table that there is not, none
   pub rows : (t : ℕ) → getD (s .layout .rows) t 0 ≡ rowCountIn r t
   pub cells-same : (t row column : ℕ) → cellsIn cells (s .layout) t row column ≡ cellsOf r t row column
+
+-- the key columns of the tables; of a table that there is not, none
+abbrev pub KeysStand : List ℕ → Report → Type 0
+KeysStand keys r = (t : ℕ) → getD keys t 0 ≡ keyKept (tableAt r t .keyColumn)

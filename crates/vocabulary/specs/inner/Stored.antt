@@ -1,5 +1,7 @@
 -- The query that the code's structs hold. Assumes nothing.
 use mathlib.Core.List.{map}
+use mathlib.Core.Option.{Option, none, some}
+use Prim.Native.Nat.{ℕ, _+_}
 use lib.ListN.{take}
 use Rattle.rows.specs.Lists.{range}
 use Rattle.rows.specs.declared.kind.Kind.the-variants.{Inner}
@@ -7,6 +9,11 @@ use Rattle.vocabulary.specs.Report.{Join, Pair, Query}
 use Rattle.vocabulary.specs.declared.query.StoredJoin.{StoredJoin}
 use Rattle.vocabulary.specs.declared.query.StoredPair.{StoredPair}
 use Rattle.vocabulary.specs.declared.query.StoredQuery.{StoredQuery}
+
+-- a table's key column as it is kept: its number and 1, or 0 where there is none
+unfoldable pub keyKept : Option ℕ → ℕ
+keyKept none = 0
+keyKept (some c) = c + 1
 
 -- a J line with its conditions' numbers
 unfoldable pub joinIn : StoredJoin → Join

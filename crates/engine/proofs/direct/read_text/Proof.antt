@@ -1,4 +1,4 @@
--- `engine::direct::read_text` meets its contract: the refusal of questions 2 to 7, or the tree read. Assumes nothing.
+-- `engine::direct::read_text` meets its contract: the refusal of questions 2 to 7 and 12, or the tree read. Assumes nothing.
 use mathlib.Core.Path.{_∙_}
 use borrow.Author.Needs.{needs}
 use Rattle.engine.proofs.laws.DirectCode.{no-width, text-refused, text-readable, text-width, text-tables, text-read}
@@ -31,7 +31,7 @@ same-length c = search needs
 returns : tie.Need-returns
 returns c =
     let x = c .before .before .before .before .before in
-    (text-refused (x .accept .ensures) (c .before .outcome .given .1), no-width _ _)
+    (text-refused (x .accept .ensures) (x .before .before .before .before .before .pre .0) (c .before .outcome .given .1), no-width _ _)
 
 same-length-2 : tie.Need-same-length-2
 same-length-2 c = search needs

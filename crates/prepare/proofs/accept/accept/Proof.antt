@@ -1,6 +1,7 @@
--- `prepare::accept::accept` meets its contract: the reader's refusal, or the query's. Assumes nothing.
+-- `prepare::accept::accept` meets its contract: the reader's refusal, question 12's, or the query's. Assumes nothing.
 use borrow.Author.Needs.{needs}
-use Rattle.prepare.proofs.laws.AcceptLaws.{call-refused, call-tables, call-asked}
+use borrow.Author.Tests.{not-true, not-false}
+use Rattle.prepare.proofs.laws.AcceptLaws.{call-refused, call-tables, call-rows, call-twelve, call-asked}
 use Rattle.prepare.proofs.accept.accept.Statement.{statement}
 use Rattle.prepare.proofs.accept.accept.Tie as tie
 
@@ -13,28 +14,48 @@ enum-known-outcome c = search needs
 enum-told : tie.Need-enum-told
 enum-told c = search needs
 
-ask-requires : tie.Need-ask-requires
-ask-requires c κs =
-    let r = c .before .before .before .before .read in
-    call-tables _ _ _ _ (r .ensures .0) (r .ensures .1) (c .enum-told .given .1)
+columns-hold-requires : tie.Need-columns-hold-requires
+columns-hold-requires c κs =
+    let t = c .before in
+    let r = t .before .before .before .before .before .before .read in
+    let h = t .enum-told .given .1 in
+    (call-tables _ _ _ _ (r .ensures .0) (r .ensures .1) h, call-rows _ _ _ _ (r .ensures .0) (r .ensures .1) h)
 
 same-length : tie.Need-same-length
 same-length c = search needs
 
 returns : tie.Need-returns
 returns c =
-    let m = c .before .before in
-    let r = m .before .before .before .read in
-    call-refused _ _ _ _ (r .ensures .0) (r .ensures .1) _ _ (c .before .outcome .given .1)
+    let k = c .before in
+    let t = k .before .before in
+    let r = t .before .before .before .before .before .before .read in
+    call-twelve _ _ _ _ (r .ensures .0) (r .ensures .1) (t .enum-told .given .1) (k .columns-hold .ensures) (not-true _ (c .if1 .taken))
+
+ask-requires : tie.Need-ask-requires
+ask-requires c κs =
+    let t = c .before .before .before in
+    let r = t .before .before .before .before .before .before .read in
+    call-tables _ _ _ _ (r .ensures .0) (r .ensures .1) (t .enum-told .given .1)
 
 same-length-2 : tie.Need-same-length-2
 same-length-2 c = search needs
 
 returns-2 : tie.Need-returns-2
 returns-2 c =
-    let t = c .before in
-    let r = t .before .before .before .before .read in
-    call-asked _ _ _ _ (r .ensures .0) (r .ensures .1) (t .enum-told .given .1) _ (c .ask .ensures)
+    let o = c .before in
+    let r = o .before .before .before .before .before .before .read in
+    call-refused _ _ _ _ (r .ensures .0) (r .ensures .1) _ _ (o .outcome .given .1)
+
+same-length-3 : tie.Need-same-length-3
+same-length-3 c = search needs
+
+returns-3 : tie.Need-returns-3
+returns-3 c =
+    let i = c .before in
+    let k = i .before in
+    let t = k .before .before in
+    let r = t .before .before .before .before .before .before .read in
+    call-asked _ _ _ _ (r .ensures .0) (r .ensures .1) (t .enum-told .given .1) (k .columns-hold .ensures) (not-false _ (i .if1 .left)) _ (c .ask .ensures)
 
 pub accept-spec : {M : Type 1} → statement M
 accept-spec =
@@ -43,8 +64,11 @@ accept-spec =
     read-requires
     enum-known-outcome
     enum-told
-    ask-requires
+    columns-hold-requires
     same-length
     returns
+    ask-requires
     same-length-2
-    returns-2)
+    returns-2
+    same-length-3
+    returns-3)

@@ -1,6 +1,7 @@
--- `prepare::prepare::prepare` meets its contract: the refusal of questions 2 to 7, or those behind them. Assumes nothing.
+-- `prepare::prepare::prepare` meets its contract: the refusal of questions 2 to 7 and 12, or those behind them. Assumes nothing.
 use borrow.Author.Needs.{needs}
-use Rattle.prepare.proofs.laws.PassedLaws.{text-well, text-passed, counted, five-kept}
+use Rattle.prepare.proofs.laws.AcceptLaws.{text-well}
+use Rattle.prepare.proofs.laws.PassedLaws.{counted, five-kept}
 use Rattle.prepare.specs.inner.Prepare.{away, passed}
 use Rattle.prepare.proofs.prepare.prepare.Statement.{statement}
 use Rattle.prepare.proofs.prepare.prepare.Tie as tie
@@ -22,7 +23,7 @@ plan-query-requires c κs =
     let x = c .before .before .before .before .accept .ensures in
     let e = c .enum-told .given .1 in
     let k = x .kept e .stands in
-    (counted k (text-well x e) (text-passed x e), five-kept k (text-well x e) (text-passed x e))
+    (counted k (text-well x e) (x .asked e), five-kept k (text-well x e) (x .asked e))
 
 same-length : tie.Need-same-length
 same-length c = search needs

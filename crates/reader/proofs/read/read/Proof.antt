@@ -16,7 +16,7 @@ same-length c = search needs
 
 returns : tie.Need-returns
 returns c =
-    let v = c .before .before .before .before .before in
+    let v = c .before .before .before .before .before .before .before in
     let e = outcome-2 _ (v .survey .result) (v .survey .ensures .0) (not-true _ (c .if1 .taken)) in
     (e, cells-refused _ _ _ _ e (search needs))
 
@@ -29,8 +29,8 @@ same-length-2 c = search needs
 returns-2 : tie.Need-returns-2
 returns-2 c =
     let f = c .before in
-    let i = f .before .before in
-    let v = i .before .before .before .before .before in
+    let i = f .before in
+    let v = i .before .before .before .before .before .before .before in
     let e = outcome-3 _ (v .survey .result) (v .survey .ensures .0) (not-false _ (i .if1 .left)) (f .tables-fit .ensures) (not-true _ (c .if2 .taken)) in
     (e, cells-refused _ _ _ _ e (search needs))
 
@@ -41,8 +41,8 @@ returns-3 : tie.Need-returns-3
 returns-3 c =
     let j = c .before .before in
     let f = j .before in
-    let i = f .before .before in
-    let v = i .before .before .before .before .before in
+    let i = f .before in
+    let v = i .before .before .before .before .before .before .before in
     let e =
     outcome-4 _ (v .survey .result) (v .survey .ensures .0) (not-false _ (i .if1 .left)) (f .tables-fit .ensures) (not-false _ (j .if2 .left))
     (not-true _ (c .if3 .taken)) in
@@ -55,12 +55,12 @@ returns-4 : tie.Need-returns-4
 returns-4 c =
     let j = c .before .before in
     let f = j .before in
-    let i = f .before .before in
-    let v = i .before .before .before .before .before in
+    let i = f .before in
+    let v = i .before .before .before .before .before .before .before in
     let a = not-false _ (i .if1 .left) in
     let e =
     outcome-says _ (v .survey .result) (v .survey .ensures .0) a (f .tables-fit .ensures) (not-false _ (j .if2 .left)) (not-false _ (c .if3 .left))
-    (i .before .before .stored .ensures) in
+    (i .before .before .before .before .stored .ensures) in
     (e, cells-accepted _ _ _ (search needs) (v .survey .ensures .1 a))
 
 pub read-spec : {M : Type 1} → statement M

@@ -13,14 +13,19 @@ closed-rows-requires c κs = search needs
 opened-table-requires : tie.Need-opened-table-requires
 opened-table-requires c κs = search needs
 
-add-t9 : tie.Need-add-t9
-add-t9 c = search needs
+opened-key-requires : tie.Need-opened-key-requires
+opened-key-requires c κs = search needs
+
+add-t12 : tie.Need-add-t12
+add-t12 c = search needs
 
 returns : tie.Need-returns
 unfolding afterTable
-returns c = rw (c .opened-table .ensures, c .before .closed-rows .ensures, c .before .before .before .table-fits .ensures)
+returns c =
+    let o = c .before .before in
+    rw (c .opened-key .ensures, o .opened-table .ensures, o .before .closed-rows .ensures, o .before .before .before .table-fits .ensures)
 
 pub after-table-spec : {M : Type 1} → statement M
 after-table-spec =
     tie.close
-    (tie.spec table-fits-requires closed-rows-requires opened-table-requires add-t9 returns)
+    (tie.spec table-fits-requires closed-rows-requires opened-table-requires opened-key-requires add-t12 returns)
