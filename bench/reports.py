@@ -19,8 +19,8 @@ def line(*fields):
     return "\t".join(str(field) for field in fields) + "\n"
 
 
-def table(columns, rows):
-    return line("T", columns) + "".join(line("D", *row) for row in rows)
+def table(columns, rows, *key_column):
+    return line("T", columns, *key_column) + "".join(line("D", *row) for row in rows)
 
 
 def keys(random, count, start=0):
@@ -39,6 +39,13 @@ def chain(count, kind, conditions, order=()):
     return text + "".join(line("P", *pair) for pair in order)
 
 
+def one_slot(count):
+    """Numbers that all have one slot of the engine's index (docs/PERFORMANCE.md), so that their chain has them all."""
+    slot = lambda number: (number + 2 ** 31) * 1640531527 // 16777216 % 256
+    numbers = [number for number in range(count * 300) if slot(number) == slot(0)]
+    return [[number] for number in numbers[:count]]
+
+
 def same_key(t):
     return [line("C", 0, 0, "=", t, 0)]
 
@@ -47,7 +54,8 @@ def reports():
     r = random.Random(1)
     yield "first", open(os.path.join(TOP, "samples", "first.in")).read()
     yield "week", open(os.path.join(TOP, "samples", "week.in")).read()
-    yield "one-table-256", table(1, keys(r, 256))
+    only = table(1, keys(r, 256))
+    yield "one-table-256", only
     tables = "".join(table(1, keys(r, 256)) for _ in range(8))
     yield "eight-tables-256", tables + chain(8, "L", same_key)
     yield "eight-tables-inner", tables + chain(8, "I", same_key)
@@ -83,6 +91,13 @@ def reports():
     asked = ([(1, "<", 1000), (2, "=", 7), (1, "<=", 999), (1, ">", -1), (1, "<>", 1000), (1, ">=", 0)] * 6)[:31]
     yield "constants-31", table(1, keys(r, 256)) + levels + line("J", "L", 0, 1) + same_key(1)[0] \
         + "".join(line("K", 1, column, o, number) for column, o, number in asked)
+    # reports above, with key columns
+    rows = [row.split("\t")[1:] for row in only.splitlines()[1:]]
+    yield "key-column-256", table(1, rows, 0)
+    yield "key-columns-eight", tables.replace("T\t1\n", "T\t1\t0\n") + chain(8, "L", same_key)
+    # every pair of cells is compared
+    yield "key-column-one-slot", table(1, one_slot(256), 0)
+    yield "no-key-column-one-slot", table(1, one_slot(256))
 
 
 def main():

@@ -5,7 +5,7 @@
 
 The same seed and count give the same texts. About half of the texts are whole;
 the others are whole texts with one to three faults. Whole texts are answered
-or get 11; the faults bring in 2 to 7 and 9.
+or get 11; the faults bring in 2 to 7, 9 and 12.
 """
 import os
 import random
@@ -51,9 +51,9 @@ def tree(rng, n, flat):
 
 
 def whole(rng, size=None):
-    """A text with every count right. Conditions name any table under their join; one text
-    of five is made so that its tree is simplified: no join names a table right of an outer
-    join that lies in a side which the join blanks."""
+    """A text with every count right. One table of four has a key column. Conditions name any
+    table under their join; one text of five is made so that its tree is simplified: no join
+    names a table right of an outer join that lies in a side which the join blanks."""
     text = Text()
     n = size or rng.choice([1, 2, 2, 2, 3, 3, 3, 3, 3, 4, 4, 4, 4, 5, 5, 6])
     most = rng.choice([1, 2, 3, 3, 4, 4]) if n < 5 else rng.choice([1, 2, 2, 3])
@@ -68,6 +68,8 @@ def whole(rng, size=None):
         rows = most if most > 5 else 0 if rng.random() < 0.07 else rng.randint(1, most)
         for _ in range(rows):
             text.add("D", *(value(rng, highest, blanks) for _ in range(columns[-1])))
+        if rng.random() < 0.25:
+            make_key_column(rng, text, rng.randrange(columns[-1]), rows)
 
     simplified = rng.random() < 0.2
     outer_share = rng.choice([0.3, 0.6, 0.6, 0.9])
@@ -109,6 +111,16 @@ def value(rng, highest, blanks):
     if rng.random() < 0.02:
         return rng.choice([-2147483647, 2147483647, -1, -10])
     return rng.randint(0, highest)
+
+
+def make_key_column(rng, text, column, rows):
+    """Makes a column the key column of the last table: it has numbers, no two of them equal."""
+    text.lines[-1 - rows].append(str(column))
+    numbers = rng.sample(range(rows + 2), rows)
+    if rows and rng.random() < 0.1:
+        numbers[rng.randrange(rows)] = rng.choice([-2147483647, 2147483647])
+    for line, number in zip(text.lines[len(text.lines) - rows:], numbers):
+        line[1 + column] = str(number)
 
 
 def condition(rng, columns, a, b):
@@ -156,7 +168,7 @@ def lines_exchanged(rng, text):
 def table_count(rng, text):
     i = some_line(rng, text, "T")
     if i is not None:
-        text.lines[i] = ["T", rng.choice(["0", "1", "2", "3", "8", "9", "9999"])]
+        set_field(text, i, 1, rng.choice(["0", "1", "2", "3", "8", "9", "9999"]))
 
 
 def tables_more(rng, text):
@@ -171,6 +183,23 @@ def cells_more_or_less(rng, text):
             text.lines[i].pop()
         else:
             text.lines[i].append(rng.choice(["-", "0", "1"]))
+
+
+def key_column_wrong(rng, text):
+    """A key column that there is not, or most often one with a blank or with equal cells."""
+    i = some_line(rng, text, "T")
+    if i is None or len(text.lines[i]) < 2:
+        return
+    column = rng.choice([0, 0, 0, 1, 2, 3, 8, 9999, text.lines[i][1]])
+    text.lines[i][2:] = [str(column)]
+    rows = i + 1
+    while rows < len(text.lines) and text.lines[rows][:1] == ["D"]:
+        rows += 1
+    if rows > i + 1 and rng.random() < 0.7:
+        one, other = (rng.randrange(i + 1, rows) for _ in range(2))
+        place = 1 + int(column) if str(column).isdigit() else 1
+        if place < len(text.lines[one]) and place < len(text.lines[other]):
+            text.lines[one][place] = "-" if rng.random() < 0.3 else text.lines[other][place]
 
 
 def set_field(text, i, place, field):
@@ -234,7 +263,8 @@ def order_wrong(rng, text):
 
 
 FAULTS = [odd_field, field_more_or_less, line_lost, line_twice, lines_exchanged, table_count,
-          tables_more, cells_more_or_less, cells_more_or_less, side_changed, side_changed,
+          tables_more, cells_more_or_less, cells_more_or_less, key_column_wrong,
+          key_column_wrong, side_changed, side_changed,
           kind_changed, kind_changed, condition_changed, condition_changed, tables_renamed,
           tables_renamed, join_with_k_only, join_with_k_only, conditions_more,
           order_wrong, order_wrong, order_wrong]

@@ -18,6 +18,12 @@ import translate                                                        # noqa: 
 LIMIT = 256
 SECONDS = 50            # where no count is given, no new report is begun after these
 LETTERS = re.compile("S+U*M*B*Z?R*")            # the lines of an answer's print, by their letters
+# Why an SQL system does not take a key column, by the words of SQLite and of PostgreSQL.
+REASONS = {
+    "equal cells": re.compile("unique constraint", re.IGNORECASE),
+    "a blank": re.compile("check constraint", re.IGNORECASE),
+    "no such column": re.compile("no such column|named in key does not exist"),
+}
 
 
 def printed(rows, letter="R"):
@@ -42,6 +48,14 @@ def lines_of(out, letter):
     return b"".join(line for line in out.splitlines(True) if line.startswith(letter))
 
 
+def reason(message):
+    """Which of REASONS an SQL system's message has."""
+    for name, words in REASONS.items():
+        if words.search(message):
+            return name
+    raise ValueError("the tables cannot be made: " + message)
+
+
 def turned_down(out):
     """The number of a refusal, or None."""
     if not out.startswith(b"E\t"):
@@ -54,12 +68,13 @@ class Check:
 
     run(program, text) gives a print; ask(text) gives the rows of the nested join
     and of the joins one by one, both as printed() writes them, the most rows that a
-    join has, and the counts of each condition, as U lines. run_plan(text, lines), which
+    join has, and the counts of each condition, as U lines. refuses(text) gives which of
+    REASONS keeps the tables from being made, or None. run_plan(text, lines), which
     may be left out, gives the counts of the pairs and the rows of a printed plan.
     """
 
-    def __init__(self, ask, run, run_plan):
-        self.ask, self.run, self.run_plan = ask, run, run_plan
+    def __init__(self, ask, run, refuses, run_plan):
+        self.ask, self.run, self.refuses, self.run_plan = ask, run, refuses, run_plan
         self.count = collections.Counter()
 
     def difference(self, what, text, **prints):
@@ -137,11 +152,34 @@ class Check:
         if plan_rows != rows:
             self.difference(who + ", the rows of the plan", text, SQL=plan_rows, printed=out)
 
-    def random_report(self, text, n, simplified, rng, orders):
+    def hold_key_columns(self, text, fit):
+        """Holds question 12, by which the key columns of a text fit or not, to the constraints
+        of the SQL tables. Gives whether these were taken."""
+        if all(column is None for column in translate.Query(text).key_columns):
+            return True
+        why = self.refuses(text)
+        self.count["key columns in SQL: " + (why or "taken")] += 1
+        if fit != (why is None):
+            self.difference("the key columns", text, SQL=(why or "taken").encode("ascii"))
+        return why is None
+
+    def hold_refused(self, text, out, who):
+        """A text that question 12 turns down."""
+        self.count[who + ": E 12"] += 1
+        if out != b"E\t12\n":
+            self.difference(who, text, SQL=b"a key column is not taken", printed=out)
+
+    def random_report(self, text, n, simplified, wrong, rng, orders):
         self.count["random reports"] += 1
         self.count["random reports of %d tables" % n] += 1
         if not simplified:
             self.count["random reports that are not simplified"] += 1
+        if wrong:
+            self.hold_key_columns(wrong, False)
+            for program in ("report", "direct"):
+                self.hold_refused(wrong, self.run(program, wrong), program)
+        if not self.hold_key_columns(text, True):
+            return
         rows, most, tallies = self.sql(text)
         if rows:
             self.count["random reports with rows"] += 1
@@ -159,8 +197,17 @@ class Check:
         for program in ("report", "direct"):
             with open(path[:-len("in")] + program, "rb") as file:
                 stored[program] = file.read()
-        if turned_down(stored["direct"]) in range(2, 8):
+        number = turned_down(stored["direct"])
+        if number in range(2, 8):
             self.count["files turned down by questions 2 to 7"] += 1
+            return
+        taken = self.hold_key_columns(text, number != 12)
+        if number == 12:
+            self.count["files turned down by question 12"] += 1
+            for program in ("report", "direct"):
+                self.hold_refused(text, stored[program], "stored " + program)
+                self.hold_refused(text, self.run(program, text), program)
+        if number == 12 or not taken:
             return
         self.count["files"] += 1
         rows, most, tallies = self.sql(text)
@@ -179,7 +226,7 @@ class Check:
                 self.hold_report(query + order, self.run("report", query + order), rows, tallies, "report")
 
 
-def main(name, about, system, ask, count, run_plan=None):
+def main(name, about, system, ask, count, refuses, run_plan=None):
     """The whole of a check: arguments, texts, counts. Gives the exit status."""
     parser = argparse.ArgumentParser(
         prog=name, usage=name + " [--seed N] [--count N] [--orders N] [REPORT DIRECT]",
@@ -207,21 +254,22 @@ def main(name, about, system, ask, count, run_plan=None):
         import reference
         run = reference.run
     start = time.monotonic()
-    check = Check(ask, run, run_plan)
+    check = Check(ask, run, refuses, run_plan)
     rng = random.Random(given.seed)
     for folder in ("trials", "samples"):
         for path_in in sorted(glob.glob(os.path.join(top, folder, "*.in"))):
             check.file(path_in, rng, given.orders)
-    for text, n, simplified in reports.texts(given.seed, count if given.count is None else given.count):
+    for text, n, simplified, wrong in reports.texts(given.seed, count if given.count is None else given.count):
         if given.count is None and time.monotonic() - start > SECONDS:
             print("stopped after %d seconds; %d random reports were asked for" % (SECONDS, count))
             break
-        check.random_report(text, n, simplified, rng, given.orders)
+        check.random_report(text, n, simplified, wrong, rng, given.orders)
     print("%s, seed %d" % (system, given.seed))
     for counted in sorted(check.count):
         if counted != "differences":
             print("%7d %s" % (check.count[counted], counted))
     print("%d differences in %.0f seconds" % (check.count["differences"], time.monotonic() - start))
     enough = (check.count["direct: rows"] and check.count["report: rows"]
-              and check.count["conditions counted by SQL: unknown of some rows"])
+              and check.count["conditions counted by SQL: unknown of some rows"]
+              and all(check.count["key columns in SQL: " + why] for why in [*REASONS, "taken"]))
     return 0 if enough and not check.count["differences"] else 1

@@ -1,10 +1,13 @@
-"""Random reports that questions 2 to 7 do not turn down, by how they are made.
+"""Random reports that questions 2 to 7 and 12 do not turn down, by how they are made.
 
-One to eight tables, some of them empty, blanks in the cells, all operators,
-C lines between the sides, C lines with both tables on one side, K lines, lines
-that stand twice. Conditions name any table under their join; one report of five
-is made so that its tree is simplified. The same seed gives the same texts.
+One to eight tables, some of them empty, a third of them with a key column, blanks
+in the cells, all operators, C lines between the sides, C lines with both tables on
+one side, K lines, lines that stand twice. Conditions name any table under their
+join; one report of five is made so that its tree is simplified. Of some reports
+there is another text, with a key column that question 12 turns down. The same seed
+gives the same texts.
 """
+import itertools
 import random
 
 OPERATORS = ["<", "=", "<=", ">", "<>", ">="]
@@ -58,7 +61,37 @@ def tables(rng, n):
         for _ in range(rows):
             lines.append(["D"] + ["-" if rng.random() < blanks else value()
                                   for _ in range(columns[-1])])
+        if rng.random() < 0.3:
+            key_column(rng, lines, rows, rng.randrange(columns[-1]), lowest, highest)
     return lines, columns, value
+
+
+def key_column(rng, lines, rows, column, lowest, highest):
+    """Makes a column the key column of the last table, which has so many rows: no two of its
+    numbers are equal. Most are among those that other columns have."""
+    lines[-1 - rows].append(column)
+    numbers = list(range(lowest, max(highest, lowest + rows) + 1)) + EXTREMES[:1] + EXTREMES[-1:]
+    for line, number in zip(lines[len(lines) - rows:], rng.sample(numbers, rows)):
+        line[1 + column] = number
+
+
+def wrong_key_column(rng, lines):
+    """The lines with a key column that question 12 turns down: one that does not exist, or one
+    with a blank or with two equal cells."""
+    lines = [list(line) for line in lines]
+    at = rng.choice([i for i, line in enumerate(lines) if line[0] == "T"])
+    rows = list(itertools.takewhile(lambda line: line[0] == "D", lines[at + 1:]))
+    columns = lines[at][1]
+    column = rng.randrange(columns)
+    if not rows or rng.random() < 0.3:
+        column = columns + rng.choice([0, 0, 1, 9999 - columns])
+    elif len(rows) == 1 or rng.random() < 0.4:
+        rng.choice(rows)[1 + column] = "-"
+    else:
+        one, other = rng.sample(rows, 2)
+        one[1 + column] = other[1 + column]
+    lines[at][2:] = [column]
+    return lines
 
 
 def report(rng):
@@ -114,8 +147,10 @@ def report(rng):
 
 
 def texts(seed, count):
-    """Texts without P lines, each with its count of tables and whether its tree is simplified."""
+    """Texts without P lines, each with its count of tables, whether its tree is simplified, and
+    for one of four the same with a key column that question 12 turns down, else None."""
     rng = random.Random(seed)
     for _ in range(count):
         lines, n, simplified = report(rng)
-        yield text_of(lines), n, simplified
+        wrong = text_of(wrong_key_column(rng, lines)) if rng.random() < 0.25 else None
+        yield text_of(lines), n, simplified, wrong

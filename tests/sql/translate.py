@@ -5,7 +5,9 @@
     translate.py --steps < text     the same, one table for each join
 
 It is meant for texts that questions 2 to 7 do not turn down and asks none of
-them. The SQL is plain: SQLite and PostgreSQL both take it.
+them. The SQL is plain: SQLite and PostgreSQL both take it. Question 12 is left to
+the SQL system: a key column is UNIQUE and must not be NULL, so the tables of a text
+that question 12 turns down cannot be made or filled.
 
 Table 1 becomes the SQL table t1. Its column t1_row holds the row numbers, its
 columns t1_c0, t1_c1, .. the cells, blank as NULL. No two columns of a report
@@ -22,6 +24,7 @@ import sys
 class Query:
     def __init__(self, text):
         self.tables = []            # (count of columns, rows as lists of fields)
+        self.key_columns = []       # for each table the number of its key column, or None
         self.joins = []             # (kind, left, right, conditions as SQL)
         self.conditions = []        # all conditions as SQL, by their numbers
         self.named = []             # the SQL tables that each condition names
@@ -30,6 +33,7 @@ class Query:
             letter, *fields = line.split("\t")
             if letter == "T":
                 self.tables.append((int(fields[0]), []))
+                self.key_columns.append(int(fields[1]) if len(fields) > 1 else None)
             elif letter == "D":
                 self.tables[-1][1].append(fields)
             elif letter == "J":
@@ -59,12 +63,20 @@ class Query:
         statements = []
         for t, (_, rows) in enumerate(self.tables):
             statements.append("CREATE TEMPORARY TABLE t%d (%s)" % (
-                t, ", ".join(name + " INTEGER" for name in self.columns(t))))
+                t, ", ".join([name + " INTEGER" for name in self.columns(t)] + self.constraints(t))))
             if rows:
                 values = ["(%s)" % ", ".join([str(r)] + ["NULL" if f == "-" else f for f in row])
                           for r, row in enumerate(rows)]
                 statements.append("INSERT INTO t%d VALUES %s" % (t, ", ".join(values)))
         return statements
+
+    def constraints(self, t):
+        """What SQL asks of the table's key column. Not PRIMARY KEY, where SQLite puts a number
+        in the place of NULL."""
+        if self.key_columns[t] is None:
+            return []
+        name = "t%d_c%d" % (t, self.key_columns[t])
+        return ["UNIQUE (%s)" % name, "CHECK (%s IS NOT NULL)" % name]
 
     def select(self, source):
         """All row numbers, in table order, ordered by them, NULL last."""

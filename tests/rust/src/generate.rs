@@ -10,7 +10,7 @@ pub use reports::OPERATORS;
 use reports::Report;
 
 /// A report with every form of line, damaged in every place.
-const SMALL: &str = "T\t2\nD\t10\t-1\nD\t11\t-\nT\t2\nD\t10\t7\nD\t11\t8\nT\t1\nD\t7\n\
+const SMALL: &str = "T\t2\t0\nD\t10\t-1\nD\t11\t-\nT\t2\nD\t10\t7\nD\t11\t8\nT\t1\nD\t7\n\
     J\tI\t1\t2\nC\t1\t1\t=\t2\t0\nK\t1\t0\t>=\t-5\nJ\tL\t0\t3\nC\t0\t0\t<=\t1\t0\n\
     P\t0\t1\nP\t3\t2\n";
 

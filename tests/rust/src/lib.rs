@@ -6,6 +6,7 @@
 
 mod execute;
 pub mod generate;
+pub mod key_columns;
 pub mod lent;
 mod plan;
 mod print;

@@ -1,4 +1,4 @@
-//! The report text, read in one pass: questions 2 to 4.
+//! The report text, read in one pass: questions 2 to 4, and 12, which is put to what was read.
 
 use crate::{BLANK, CELLS, COLUMNS, CONDITIONS, ROWS, TABLES, TEXT};
 
@@ -40,6 +40,25 @@ pub struct Table {
     pub columns: usize,
     pub rows: usize,
     pub start: usize,
+    key_column: Option<usize>,
+}
+
+impl Table {
+    /// Question 12: the key column, where the table has one, exists, has no blank and no two equal cells.
+    fn key_column_fits(&self, cells: &[i32]) -> bool {
+        let Some(column) = self.key_column else { return true };
+        if column >= self.columns {
+            return false;
+        }
+        let mut numbers = [0; ROWS];
+        let numbers = &mut numbers[..self.rows];
+        for (row, number) in numbers.iter_mut().enumerate() {
+            *number = cells[self.start + row * self.columns + column];
+        }
+        numbers.sort_unstable();
+        // A blank cell is the smallest number.
+        numbers.first() != Some(&BLANK) && numbers.windows(2).all(|pair| pair[0] < pair[1])
+    }
 }
 
 #[derive(Clone, Copy, Default)]
@@ -105,7 +124,11 @@ impl Query {
         if !(1..=TABLES).contains(&query.tables.len()) || !tables.iter().all(fits) || query.cells > CELLS {
             return Err(3);
         }
-        if query.even { Ok(query) } else { Err(4) }
+        if !query.even {
+            return Err(4);
+        }
+        let keyed = tables.iter().all(|table| table.key_column_fits(cells));
+        if keyed { Ok(query) } else { Err(12) }
     }
 
     /// `None` if a line has no form or is out of place.
@@ -123,7 +146,9 @@ impl Query {
         while cursor.at < text.len() {
             match cursor.next() {
                 b'T' if part == Part::Tables => {
-                    query.tables.push(Table { columns: cursor.field()?.into(), rows: 0, start: query.cells });
+                    let columns = cursor.field()?.into();
+                    let key_column = if cursor.peek() == b'\t' { Some(cursor.field()?.into()) } else { None };
+                    query.tables.push(Table { columns, rows: 0, start: query.cells, key_column });
                 }
                 b'D' if part == Part::Tables && query.tables.len() > 0 => {
                     query.row(&mut cursor, cells)?;

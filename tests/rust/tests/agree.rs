@@ -1,13 +1,15 @@
 //! Generated texts: the plan and the direct reading hand over the same rows (demand 3), every refusal occurs, the lent
-//! memory ends as document 01 says, and the counts of each condition are those of all pairs looked at one by one.
+//! memory ends as document 01 says, the counts of each condition are those of all pairs looked at one by one, and
+//! question 12 says what all pairs of a key column's cells say.
 
 use hashjoin::generate::{each_fixed_text, each_random_text};
+use hashjoin::key_columns::{KeyColumn, key_columns};
 use hashjoin::lent::{LEAST, Lent, MARK};
 use hashjoin::{Answer, BEST_MATCH, BLANKING, ROWS, Rows, STEPS, Step, TABLES, Tally};
 
 const SEED: u64 = 1;
 const COUNT: usize = 40_000;
-const QUESTIONS: usize = 11;
+const QUESTIONS: usize = 12;
 
 #[test]
 fn report_and_direct_agree() {
@@ -16,6 +18,7 @@ fn report_and_direct_agree() {
     let mut kinds = [0; BEST_MATCH as usize + 1];
     let (mut only_report, mut only_direct, mut most_rows, mut most_steps) = (0, 0, 0, 0);
     let (mut texts, mut conditions, mut highest) = (0, 0, Tally::default());
+    let (mut keyed, mut most_cells) = (0, 0);
     let mut check = |text: &[u8]| {
         texts += 1;
         lent.iter_mut().for_each(|lent| lent.result.fill(MARK));
@@ -36,6 +39,14 @@ fn report_and_direct_agree() {
             highest.holds = highest.holds.max(tally.holds);
             highest.fails = highest.fails.max(tally.fails);
             highest.unknown = highest.unknown.max(tally.unknown);
+        }
+        if let Ok(_) | Err(12) = read {
+            let columns = key_columns(text);
+            assert_eq!(columns.iter().all(KeyColumn::fits), read.is_ok(), "{}", shown(text));
+            if read.is_ok() {
+                keyed += columns.len();
+                most_cells = columns.iter().map(|column| column.cells.len()).fold(most_cells, usize::max);
+            }
         }
         match (planned, read) {
             (Ok(planned), Ok(read)) => {
@@ -62,11 +73,13 @@ fn report_and_direct_agree() {
     println!("answered by report alone {only_report}, by direct alone {only_direct}");
     println!("steps by kind {:?}; most steps {most_steps}, most rows {most_rows}", &kinds[1..]);
     println!("conditions counted {conditions}; most of each {highest:?}");
+    println!("key columns of answered texts {keyed}; most cells of one {most_cells}");
     for (question, &count) in refused[0].iter().enumerate() {
         // Number 8 is not used.
         assert_eq!(count == 0, [1, 8, 10].contains(&question), "question {question}");
     }
     assert!(only_report > 0 && only_direct > 0 && most_rows == ROWS && most_steps == STEPS);
+    assert!(keyed > texts / 8 && most_cells == ROWS);
     assert!(kinds.iter().all(|&count| count > 0));
     let pairs = (ROWS * ROWS) as u32;
     assert_eq!(highest, Tally { holds: pairs, fails: pairs, unknown: pairs });

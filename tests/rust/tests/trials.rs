@@ -1,4 +1,4 @@
-//! The trials of document 01 and of document 02's items 1 and 2, worked out by hand. In these texts a bar stands for a
+//! The trials of document 01 and of document 02's items 1, 2 and 4, worked out by hand. In these texts a bar stands for a
 //! tab and a space ends a line.
 
 use hashjoin::lent::{LEAST, Lent, MARK};
@@ -189,6 +189,76 @@ fn applied_sets() {
 }
 
 #[test]
+fn key_columns() {
+    // No two equal cells in the key column, whatever other columns and other tables have.
+    prints("T|1|0 D|1 D|2 D|0", "S|0 R|0 R|1 R|2", "R|0 R|1 R|2");
+    prints("T|3|1 D|5|1|- D|5|2|- D|5|-5|2", "S|0 R|0 R|1 R|2", "R|0 R|1 R|2");
+    prints("T|2|0 D|1|2 D|2|1", "S|0 R|0 R|1", "R|0 R|1");
+    prints("T|8|7 D|1|1|1|1|1|1|1|3 D|1|1|1|1|1|1|1|4", "S|0 R|0 R|1", "R|0 R|1");
+    prints("T|1|0 D|-2147483647 D|2147483647 D|0 D|-1", "S|0 R|0 R|1 R|2 R|3", "R|0 R|1 R|2 R|3");
+    prints("T|8|7", "S|0", "");
+    let tables = "T|2|0 D|10|1 D|11|2 T|2|0 D|10|7 D|11|8 T|1|0 D|7";
+    let rows = "R|0|0|0 R|1|-|-";
+    let before = "U|0|1|1|0 U|1|2|2|0 M|L|0|1|2|1 M|L|3|2|2|0 B|1|0 Z";
+    prints(&document(tables, ORDER), &[SETS, before, rows].join(" "), rows);
+    for wrong in [
+        "T|1|0 D|1 D|2 D|1",
+        "T|1|0 D|-",
+        "T|1|0 D|0 D|-",
+        "T|1|0 D|2147483647 D|0 D|2147483647",
+        "T|1|0 D|-2147483647 D|-2147483647",
+        "T|2|1 D|1|7 D|2|7",
+        "T|2|2 D|1|2",
+        "T|2|2",
+        "T|8|8",
+        "T|1|9999",
+        "T|1 D|1 D|1 T|1|0 D|1 D|1 J|L|0|1 C|0|0|=|1|0",
+    ] {
+        refused(wrong, 12);
+    }
+}
+
+#[test]
+fn key_columns_of_256_rows() {
+    let column = |cells: &mut dyn Iterator<Item = i32>| {
+        let rows: Vec<String> = cells.map(|cell| format!(" D|{cell}")).collect();
+        format!("T|1|0{}", rows.concat())
+    };
+    for step in [1, 256, 3600, 65536] {
+        let print = print_direct(&text(&column(&mut (0..256).map(|row| row * step))));
+        assert_eq!(print.iter().filter(|&&byte| byte == b'\n').count(), 256);
+        for (one, other) in [(0, 1), (0, 255), (254, 255), (127, 128)] {
+            refused(&column(&mut (0..256).map(|row| if row == other { one * step } else { row * step })), 12);
+        }
+    }
+}
+
+#[test]
+fn forms_of_key_columns() {
+    for field in ["", "-", "-0", "-1", "+0", "00", "01", "00000", "10000", "0|", "0|0", "1.", "0x", "a"] {
+        refused(&format!("T|1|{field} D|1"), 2);
+    }
+    refused("T|", 2);
+    refused("T||0", 2);
+}
+
+/// Question 12 stands behind 4 and before 5, in both runs.
+#[test]
+fn the_order_of_question_12() {
+    let wrong = "T|1|0 D|1 D|1";
+    let refused = |rest: &str, question| refused(&[wrong, rest].join(" "), question);
+    refused("X", 2);
+    refused("T|9", 3);
+    refused("T|1 D|1|1", 4);
+    refused("T|1", 12);
+    refused("J|I|0|0", 12);
+    refused("T|1 D|1 J|L|0|1 C|0|1|=|1|0", 12);
+    refused("T|1 D|1 J|L|0|1 K|0|0|=|1", 12);
+    refused("T|1 D|1 J|L|0|1 C|0|0|=|1|0 P|0|0", 12);
+    refused(&format!("T|1 {}J|L|0|1 C|0|0|=|1|0", "D|1 ".repeat(129)), 12);
+}
+
+#[test]
 fn joins_that_are_refused() {
     refused("T|1 T|1 J|I|0|1 K|0|0|=|1", 7);
     refused("T|1 T|1 J|I|0|0 C|0|0|=|1|0", 5);
@@ -266,7 +336,7 @@ fn what_the_buffers_hold_afterwards() {
         assert!(lent.result[6..].iter().all(|&number| number == MARK));
         assert!(cleared(&lent));
 
-        for refused in ["X", "", "T|1 D|1 P|0|0", &all_match(16, 17)] {
+        for refused in ["X", "", "T|1|0 D|1 D|1", "T|1 D|1 P|0|0", &all_match(16, 17)] {
             let mut lent = Lent::marked(sizes);
             assert!(lent.report(&text(refused)).is_err());
             assert!(lent.steps.iter().all(|&step| step == Step::default()));

@@ -9,9 +9,11 @@
 //! what is lent is compared too.
 //!
 //! Exit status 1: a difference, whose text is written to target/differ.in, or a refusal other than 8 and 10 or an outcome
-//! of conditions that did not occur. Number 8 is not used, and question 10 turns down no text.
+//! of conditions that did not occur, or a kind of key column that is rare. Number 8 is not used, and question 10 turns
+//! down no text.
 
 use hashjoin::generate::{OPERATORS, Random, each_fixed_text, each_random_text};
+use hashjoin::key_columns::key_columns;
 use hashjoin::lent::{LEAST, Lent};
 use hashjoin::{Answer, CONDITIONS, ROWS, Rows, STEPS, Step, Tally, write_direct, write_report};
 use rumbethola::lent as library;
@@ -26,9 +28,14 @@ const BEHIND: usize = 16;
 const BATCH: usize = 1000;
 /// Where the text of a difference is written.
 const FOUND: &str = "target/differ.in";
-const QUESTIONS: usize = 11;
+const QUESTIONS: usize = 12;
 /// How often each operator must come out in each way; a damaged line has another operator now and then.
 const FEWEST: u64 = 16;
+/// Each kind of key column must occur in answers once for so many answers, and in refusals by question 12 once for so
+/// many of these; and there must be such a refusal for so many answers. Faults and damage make some of each kind.
+const ANSWERS_FOR_A_KIND: u64 = 50;
+const REFUSALS_FOR_A_KIND: u64 = 6;
+const ANSWERS_FOR_A_REFUSAL: u64 = 100;
 
 /// The least lengths: cells, work, result, the answer of the report, that of the direct reading, the output.
 const LEASTS: [usize; 6] = [LEAST[0], LEAST[1], LEAST[2], library::ANSWER, library::DIRECT_ANSWER, library::OUT];
@@ -196,6 +203,57 @@ impl Outcomes {
     }
 }
 
+/// What the key columns of texts were.
+#[derive(Default)]
+struct KeyColumns {
+    /// In answers of the report: of tables with as many rows as there can be.
+    full: u64,
+    /// Answers of the report to texts made by chance, and their key columns: of tables without rows, with one, and with
+    /// more; behind the first column.
+    answers: u64,
+    answered: [u64; 4],
+    /// Texts made by chance that question 12 turned down, and those of their key columns that do not exist, that have a
+    /// blank, and that have equal cells.
+    refusals: u64,
+    refused: [u64; 3],
+}
+
+impl KeyColumns {
+    /// Counts those of a text that is answered, or that question 12 turns down.
+    fn count(&mut self, text: &[u8], answered: bool) {
+        *if answered { &mut self.answers } else { &mut self.refusals } += 1;
+        for column in key_columns(text) {
+            let rows = column.cells.len();
+            if answered {
+                self.full += u64::from(rows == ROWS);
+                self.answered[rows.min(2)] += 1;
+                self.answered[3] += u64::from(column.number > 0);
+            } else {
+                let why = [!column.exists(), column.has_blank(), column.has_equal()];
+                self.refused.iter_mut().zip(why).for_each(|(count, why)| *count += u64::from(why));
+            }
+        }
+    }
+
+    fn print(&self) {
+        let ([none, one, more, behind], [missing, blank, equal]) = (self.answered, self.refused);
+        println!(
+            "key columns made by chance: in {} answers without rows {none}, of one row {one}, of more {more}, behind the \
+             first column {behind}; in {} refusals by 12 that do not exist {missing}, with a blank {blank}, with equal \
+             cells {equal}; in all answers of {ROWS} rows {}",
+            self.answers, self.refusals, self.full
+        );
+    }
+
+    fn lacks(&self) -> bool {
+        let rare = |counts: &[u64], of: u64, many: u64| counts.iter().any(|&count| count == 0 || many * count < of);
+        self.full == 0
+            || rare(&self.answered, self.answers, ANSWERS_FOR_A_KIND)
+            || rare(&self.refused, self.refusals, REFUSALS_FOR_A_KIND)
+            || rare(&[self.refusals], self.answers, ANSWERS_FOR_A_REFUSAL)
+    }
+}
+
 fn three(tally: &Tally) -> [u64; 3] {
     [tally.holds, tally.fails, tally.unknown].map(u64::from)
 }
@@ -210,13 +268,14 @@ struct Differ {
     report: Counts,
     direct: Counts,
     outcomes: Outcomes,
+    key_columns: KeyColumns,
 }
 
 impl Differ {
     fn new(seed: u64) -> Differ {
         let [start, expected, found] = [(); 3].map(|()| Memory::new());
-        let (report, direct, outcomes) = Default::default();
-        Differ { start, expected, found, random: Random::new(!seed), calls: 0, report, direct, outcomes }
+        let (report, direct, outcomes, key_columns) = Default::default();
+        Differ { start, expected, found, random: Random::new(!seed), calls: 0, report, direct, outcomes, key_columns }
     }
 
     /// The lengths of a call by chance: now and then one is too short.
@@ -251,8 +310,13 @@ impl Differ {
         let (cells, work, result) = parts!(found, lengths);
         let status = library::report(text, cells, work, result, &mut found.answer[..lengths[3]]);
         self.report.count(status);
-        if let (Ok(rows), 0) = (&answer, status) {
-            self.outcomes.count(text, rows);
+        match (&answer, status) {
+            (Ok(rows), 0) => {
+                self.outcomes.count(text, rows);
+                self.key_columns.count(text, true);
+            }
+            (Err(12), 12) => self.key_columns.count(text, false),
+            _ => (),
         }
         if lengths[3] < library::ANSWER {
             same("report", text, lengths, status == library::NO_ROOM, &self.start, found);
@@ -403,8 +467,9 @@ fn main() {
         each_lengths(&mut |lengths| differ.compare(text, lengths));
     }
 
-    // The fixed texts have every operator, whatever those made by chance have.
+    // The fixed texts have every operator and every kind of key column, whatever those made by chance have.
     differ.outcomes.operators = Default::default();
+    differ.key_columns = KeyColumns { full: differ.key_columns.full, ..Default::default() };
     let mut seed = options.seed;
     while chance < options.count && options.time.is_none_or(|time| began.elapsed() < time) {
         let batch = BATCH.min(options.count - chance);
@@ -420,6 +485,7 @@ fn main() {
     differ.report.print("report");
     differ.direct.print("direct");
     differ.outcomes.print();
+    differ.key_columns.print();
     println!("no difference, {:.1} s", began.elapsed().as_secs_f64());
     if differ.report.lacks(&[8, 10]) || differ.direct.lacks(&[8, 9, 10]) {
         println!("a refusal did not occur");
@@ -427,6 +493,10 @@ fn main() {
     }
     if differ.outcomes.lacks() {
         println!("an outcome of conditions did not occur");
+        exit(1)
+    }
+    if differ.key_columns.lacks() {
+        println!("a kind of key column is rare");
         exit(1)
     }
 }

@@ -1,18 +1,19 @@
-//! Faults that turn a valid report into one that questions 3 to 7, 9 and 11 turn down.
+//! Faults that turn a valid report into one that questions 3 to 7, 9, 11 and 12 turn down.
 
 use super::Random;
 use super::reports::{Other, Report, Table};
-use crate::{CELLS, CONDITIONS, ROWS, TABLES};
+use crate::{BLANK, CELLS, CONDITIONS, ROWS, TABLES};
 
 /// Adds one fault, where the report has a place for it.
 pub fn add(report: &mut Report, random: &mut Random) {
-    match random.below(7) {
+    match random.below(8) {
         0 => size(report, random),
         1 => width(report, random),
         2 => tree(report, random),
         3 => condition(report, random),
         4 => no_link(report, random),
         5 => order(report, random),
+        6 => key_column(report, random),
         _ => many_rows(report, random),
     }
 }
@@ -26,7 +27,7 @@ fn size(report: &mut Report, random: &mut Random) {
     let table = &mut report.tables[at];
     match random.below(5) {
         0 => report.tables.clear(),
-        1 => report.tables.resize(TABLES + 1, Table { columns: 1, rows: vec![] }),
+        1 => report.tables.resize(TABLES + 1, Table { columns: 1, ..Table::default() }),
         2 => table.columns = random.pick(&[0, 9, 10, 256, 9999]),
         3 => table.rows.resize(ROWS + 1, vec![0; table.columns]),
         _ => table.rows.push(vec![0; CELLS + 1]),
@@ -45,6 +46,27 @@ fn width(report: &mut Report, random: &mut Random) {
         row.pop();
     } else {
         row.extend(vec![0; 1 + random.below(9)]);
+    }
+}
+
+/// Question 12: a key column that there is not, or one with a blank or with two equal cells.
+fn key_column(report: &mut Report, random: &mut Random) {
+    if report.tables.is_empty() {
+        return;
+    }
+    let at = random.below(report.tables.len());
+    let Table { columns, rows, key_column } = &mut report.tables[at];
+    let column = key_column.unwrap_or_else(|| random.below((*columns).max(1)));
+    *key_column = Some(column);
+    let last = rows.len().max(1) - 1;
+    let [one, other] = if random.one_in(4) { [0, last] } else { [(); 2].map(|()| random.below(last + 1)) };
+    let cell = |row: usize| rows.get(row).and_then(|row| row.get(column)).copied();
+    let (kind, equal) = (random.below(5), cell(other));
+    match (kind, rows.get_mut(one).and_then(|row| row.get_mut(column))) {
+        (0 | 1, _) => *key_column = Some(random.pick(&[*columns, *columns + 1, 8, 255, 256, 9999])),
+        (2, Some(cell)) => *cell = BLANK,
+        (_, Some(cell)) => *cell = equal.unwrap_or(BLANK),
+        (_, None) => (),
     }
 }
 
@@ -129,12 +151,14 @@ fn no_link(report: &mut Report, random: &mut Random) {
     report.joins[at].conditions.fill(condition);
 }
 
-/// Question 11: all rows match. An empty table leaves it to the order whether a result is too long.
+/// Question 11: all rows match, so that no column can be a key column. An empty table leaves it to the order whether a
+/// result is too long.
 fn many_rows(report: &mut Report, random: &mut Random) {
     let rows = 10 + random.below(30);
     for table in &mut report.tables {
         let rows = if random.one_in(8) { 0 } else { rows };
         table.rows = vec![vec![0; table.columns.max(1)]; rows];
+        table.key_column = None;
     }
     for condition in report.joins.iter_mut().flat_map(|join| &mut join.conditions) {
         condition.operator = random.pick(&["=", "<=", ">="]);

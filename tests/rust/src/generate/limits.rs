@@ -51,6 +51,7 @@ fn reports() -> Vec<Report> {
     reports.extend(past_a_byte());
     reports.push(longest_plan());
     reports.extend(counted_conditions());
+    reports.extend(key_columns());
     reports
 }
 
@@ -88,9 +89,106 @@ fn counted_conditions() -> Vec<Report> {
     reports
 }
 
+/// Key columns that pass and that question 12 turns down.
+fn key_columns() -> Vec<Report> {
+    let tables = key_column_numbers().into_iter().chain(key_column_cells());
+    let mut reports: Vec<Report> = tables.map(|table| chain(vec![table], false)).collect();
+    for (columns, rows) in [(1, 3), (8, 64)] {
+        reports.extend(key_columns_of_eight(columns, rows));
+    }
+    reports.extend(key_column_and_fault());
+    reports
+}
+
+/// The table with a key column.
+fn keyed(table: Table, column: usize) -> Table {
+    Table { key_column: Some(column), ..table }
+}
+
+/// The first and the last column, and columns that there are not; in the one table column 0 counts the rows, in the
+/// other every column.
+fn key_column_numbers() -> Vec<Table> {
+    let mut tables = vec![];
+    for columns in [1, 2, 7, 8, 9] {
+        for column in [0, columns - 1, columns, columns + 1, 255, 256, 257, 999, 9999] {
+            for rows in [0, 1, 2] {
+                let all = (0..rows).map(|row| vec![row as i32; columns]).collect();
+                tables.push(keyed(counted(columns, rows), column));
+                tables.push(Table { columns, rows: all, key_column: Some(column) });
+            }
+        }
+    }
+    tables
+}
+
+/// Columns of different numbers, which are alike in their last bits or in the rest after division by 3600; the same
+/// with two equal ones or a blank in several places; and the ends of the range of cells, each once and twice.
+fn key_column_cells() -> Vec<Table> {
+    let mut columns = vec![];
+    for step in [1, -1, 1 << 8, 1 << 10, 1 << 16, 1 << 20, 3600, -(1 << 22)] {
+        for rows in [2, 3, ROWS - 1, ROWS] {
+            let numbers: Vec<i32> = (0..rows as i32).map(|row| row * step).collect();
+            let mut with = |at: usize, cell: i32| {
+                let mut changed = numbers.clone();
+                changed[at] = cell;
+                columns.push(changed);
+            };
+            let [middle, last] = [rows / 2, rows - 1];
+            for [from, to] in [[0, 0], [0, 1], [last - 1, last], [0, last], [last, 0], [middle, last], [0, middle]] {
+                with(to, numbers[from]);
+            }
+            [0, middle, last].into_iter().for_each(|at| with(at, BLANK));
+        }
+    }
+    let ends = [-i32::MAX, 1 - i32::MAX, -1, 0, 1, i32::MAX - 1, i32::MAX];
+    columns.push(ends.to_vec());
+    for cell in ends.into_iter().chain([BLANK]) {
+        columns.extend([vec![cell], vec![cell; 2], [&ends[..], &[cell]].concat()]);
+    }
+    columns.into_iter().map(|cells| keyed(column(cells), 0)).collect()
+}
+
+/// Eight tables joined by the column that counts their rows, which is the key column of all of them, of one, or of all
+/// but one; the same with two equal cells in that one, the last and the first.
+fn key_columns_of_eight(columns: usize, rows: usize) -> Vec<Report> {
+    let left = |table| if table == 1 { 0 } else { 6 + table };
+    let joins = (1..8).map(|table| join(true, [left(table), table], [0, table], |_| 0)).collect();
+    let every = Report { tables: vec![keyed(counted(columns, rows), 0); 8], joins, order: vec![] };
+    let mut reports = vec![every.clone()];
+    for table in 0..8 {
+        let [mut one, mut others] = [(); 2].map(|()| every.clone());
+        for at in 0..8 {
+            let without = if at == table { &mut others } else { &mut one };
+            without.tables[at].key_column = None;
+        }
+        for report in [every.clone(), one, others] {
+            let mut equal = report.clone();
+            equal.tables[table].rows[rows - 1][0] = 0;
+            reports.extend([report, equal]);
+        }
+    }
+    reports
+}
+
+/// Two equal cells in the key column of table 0, alone and beside what each other question turns down.
+fn key_column_and_fault() -> Vec<Report> {
+    let wrong = keyed(column(vec![1, 1]), 0);
+    let mut reports = vec![chain(vec![wrong.clone(), counted(1, 2)], true); 10];
+    reports[1].tables[1].columns = 9;
+    reports[2].tables.resize(9, wrong.clone());
+    reports[3].tables[1].rows[0].push(0);
+    reports[4].joins[0].sides = [0, 0];
+    reports[5].tables.push(wrong);
+    reports[6].joins[0].conditions[0].column = 1;
+    reports[7].joins[0].conditions[0].other = Other::Constant(1);
+    reports[8].order = vec![[0, 0]];
+    reports[9].tables[1] = constant(1, 129);
+    reports
+}
+
 /// A table of one column.
 fn column(cells: Vec<i32>) -> Table {
-    Table { columns: 1, rows: cells.into_iter().map(|cell| vec![cell]).collect() }
+    Table { columns: 1, rows: cells.into_iter().map(|cell| vec![cell]).collect(), key_column: None }
 }
 
 /// Two tables of one column, compared by each operator in turn, every second round from table 1's side.
@@ -145,12 +243,12 @@ fn longest_plan() -> Report {
 /// A table whose column 0 counts the rows.
 fn counted(columns: usize, rows: usize) -> Table {
     let row = |number| (0..columns).map(|column| if column == 0 { number as i32 } else { 1 }).collect();
-    Table { columns, rows: (0..rows).map(row).collect() }
+    Table { columns, rows: (0..rows).map(row).collect(), key_column: None }
 }
 
 /// A table whose cells are all equal.
 fn constant(columns: usize, rows: usize) -> Table {
-    Table { columns, rows: vec![vec![1; columns]; rows] }
+    Table { columns, rows: vec![vec![1; columns]; rows], key_column: None }
 }
 
 /// The tables joined one after the other, each to the one before it by its last column.

@@ -11,6 +11,7 @@ const EQUAL: &str = "=";
 pub struct Table {
     pub columns: usize,
     pub rows: Vec<Vec<i32>>,
+    pub key_column: Option<usize>,
 }
 
 #[derive(Clone, Copy)]
@@ -51,7 +52,7 @@ struct Node {
 }
 
 impl Report {
-    /// A report that questions 2 to 10 let pass.
+    /// A report that questions 2 to 10 and 12 let pass.
     pub fn random(random: &mut Random) -> Report {
         if random.one_in(200) {
             return Report::of_many_pairs(random);
@@ -77,7 +78,8 @@ impl Report {
     }
 
     /// Two tables of up to 256 rows, so that a condition has up to 65,536 pairs. The join asks for equal cells in
-    /// column 0, where no two cells of a table are equal, so that its result stays small.
+    /// column 0, where no two cells of a table are equal, so that its result stays small. It is most often the key
+    /// column.
     fn of_many_pairs(random: &mut Random) -> Report {
         let mut report = Report::default();
         for _ in 0..2 {
@@ -86,7 +88,9 @@ impl Report {
             let (values, blanks) = (random.pick(&[1, 2, 300]), random.pick(&[1, 2, 10, 1000]));
             let mut keys: Vec<i32> = (0..rows as i32).collect();
             let mut row = || vec![take(&mut keys, random), cell(values, blanks, random)];
-            report.tables.push(Table { columns: 2, rows: (0..rows).map(|_| row()).collect() });
+            let rows = (0..rows).map(|_| row()).collect();
+            let key_column = random.pick(&[None, Some(0), Some(0), Some(0)]);
+            report.tables.push(Table { columns: 2, rows, key_column });
         }
         let equal = Condition { table: 0, column: 0, operator: EQUAL, other: Other::Column(1, 0) };
         let outer = random.one_in(2);
@@ -192,7 +196,10 @@ impl Report {
     pub fn text(&self) -> Vec<u8> {
         let mut text = String::new();
         for table in &self.tables {
-            line(&mut text, format_args!("T\t{}", table.columns));
+            match table.key_column {
+                None => line(&mut text, format_args!("T\t{}", table.columns)),
+                Some(column) => line(&mut text, format_args!("T\t{}\t{column}", table.columns)),
+            }
             for row in &table.rows {
                 text.push('D');
                 for &cell in row {
@@ -239,7 +246,25 @@ fn table(most_rows: usize, values: usize, random: &mut Random) -> Table {
     let rows = if random.one_in(8) { 0 } else { 1 + random.below(most_rows) };
     let blanks = random.pick(&[4, 10, 1000]);
     let rows = (0..rows).map(|_| (0..columns).map(|_| cell(values, blanks, random)).collect()).collect();
-    Table { columns, rows }
+    let mut table = Table { columns, rows, key_column: None };
+    if random.one_in(4) {
+        make_key_column(&mut table, values, random);
+    }
+    table
+}
+
+/// Makes a column the table's key column: no two cells are equal. They are numbers near the first `values`, which other
+/// columns have, and now and then the ends of the range.
+fn make_key_column(table: &mut Table, values: usize, random: &mut Random) {
+    let column = random.below(table.columns);
+    let mut numbers: Vec<i32> = (0..(table.rows.len() + values) as i32).collect();
+    if random.one_in(4) {
+        numbers.extend([-i32::MAX, i32::MAX]);
+    }
+    for row in &mut table.rows {
+        row[column] = take(&mut numbers, random);
+    }
+    table.key_column = Some(column);
 }
 
 /// A cell; one in `blanks` is blank.
