@@ -60,7 +60,7 @@ extern "C" {
       No buffer is changed.
    B. `cells`, `work` or `result` is shorter than its least count: refusal 1.
       `cells`, `work` and `result` are as before. `answer` or `out` is written, as below.
-   C. A question from 2 to 11 turns the text down: the refusal has its number. Number 8 is not used.
+   C. A question from 2 to 12 turns the text down: the refusal has its number. Number 8 is not used.
       `cells` and `work` are filled with 0, to their ends. `result` is as before. `answer` or `out` is written.
    D. There is an answer, of r rows and t tables.
       `cells` and `work` are filled with 0, to their ends. The first r x t numbers of `result` are the rows, one after

@@ -4,7 +4,7 @@
     translate.py < text             the tables and one SELECT, for any SQL system
     translate.py --steps < text     the same, one table for each join
 
-It is meant for texts that questions 2 to 7 do not turn down and asks none of
+It is meant for texts that questions 2 to 7 and 12 do not turn down and asks none of
 them. The SQL is plain: SQLite and PostgreSQL both take it. Question 12 is left to
 the SQL system: a key column is UNIQUE and must not be NULL, so the tables of a text
 that question 12 turns down cannot be made or filled.

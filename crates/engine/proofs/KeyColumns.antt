@@ -2,11 +2,11 @@
 use mathlib.Core.Path.{_≡_, refl, sym, ap, subst, _∙_}
 use mathlib.Core.Bool.{Bool, true, false}
 use mathlib.Core.List.{List, [], _∷_, _++_}
-use mathlib.Core.Option.{none, some}
+use mathlib.Core.Option.{Option, none, some}
 use Prim.Native.Nat.{ℕ}
 use Rattle.cells.proofs.laws.BoolLaws.{clash}
 use Rattle.cells.specs.Row.{Row}
-use Rattle.vocabulary.specs.Asking.{firstNo, about}
+use Rattle.vocabulary.specs.Asking.{Question, firstNo, about}
 use Rattle.vocabulary.specs.Facts.{noFacts}
 use Rattle.vocabulary.specs.Report.{Report, queryOf}
 use Rattle.vocabulary.specs.KeyColumns.{KeysTellApart}
@@ -19,10 +19,11 @@ use Rattle.plan.specs.Questions.{orderQuestions}
 use Rattle.prepare.specs.Asking.{sharedQuestions, questionsOfReport, questionsOfDirect}
 use Rattle.prepare.proofs.laws.PassedLaws.{twelve-yes}
 use Rattle.executor.specs.Runs.{directRows, question11, question11Direct}
-use Rattle.engine.specs.Answers.{Outcome, refused, answered, ReportAnswer, reportOutcome, directOutcome, reportQuestions, reportAnswer, directQuestions}
+use Rattle.engine.specs.Answers.{Outcome, refused, answered, outcomeFor, ReportAnswer, reportOutcome, directOutcome, reportQuestions, reportAnswer, directQuestions}
 use Rattle.engine.specs.Calls.{Lent, question1, question1Direct, ReportCall, reportAfter, reportCall, DirectCall, directAfter, directCall}
-use Rattle.engine.specs.KeyColumns.{TwelveTells, AnsweredKeys}
+use Rattle.engine.specs.KeyColumns.{TwelveTells, AnsweredKeys, withoutKeys, KeysAside}
 use Rattle.engine.proofs.laws.AnswerLaws.{answered-report}
+use Rattle.engine.proofs.laws.KeysAside.{answer-same, direct-same, report-kept, direct-kept}
 use Rattle.engine.specs.declared.answer.Answer.the-variants.{Rows, Refused}
 
 -- question 12, both ways
@@ -84,4 +85,30 @@ pub answered-keys : AnsweredKeys
 answered-keys = (
   λ text m steps c n e f r read. report-told text m n r read steps c e f,
   λ text m c n e f r read. direct-told text m n r read c e f,
+)
+
+-- the outcomes without key columns
+outcome-yes : {A : Type 0} (qs : List (Question Report)) (answer : Report → A) (r : Report) (a : A) → outcomeFor qs answer (some r) ≡ answered a
+    → (firstNo qs r ≡ none) × (answer r ≡ a)
+unfolding outcomeFor
+outcome-yes {A} qs answer r a e = go (firstNo qs r) refl e
+  where
+    go : (o : Option ℕ) → firstNo qs r ≡ o → _≡_ {A = Outcome A} (elim o [ some n ↦ refused n | none ↦ answered (answer r) ]) (answered a)
+        → (firstNo qs r ≡ none) × (answer r ≡ a)
+    go none f h = (f, cc)
+    go (some n) f h = clash cc
+
+outcome-of : {A : Type 0} (qs : List (Question Report)) (answer : Report → A) (r : Report) (a : A) → firstNo qs r ≡ none → answer r ≡ a
+    → outcomeFor qs answer (some r) ≡ answered a
+unfolding outcomeFor
+outcome-of {A} qs answer r a e f = ap (λ (o : Option ℕ). elim o as (λ z. Outcome A) [ some n ↦ refused n | none ↦ answered (answer r) ]) e ∙ ap answered f
+
+pub keys-aside : KeysAside
+keys-aside r = (
+  λ a e.
+      let (f, g) = outcome-yes reportQuestions reportAnswer r a e in
+      outcome-of reportQuestions reportAnswer (withoutKeys r) a (report-kept r f) (answer-same r ∙ g),
+  λ rows e.
+      let (f, g) = outcome-yes directQuestions directRows r rows e in
+      outcome-of directQuestions directRows (withoutKeys r) rows (direct-kept r f) (direct-same r ∙ g),
 )

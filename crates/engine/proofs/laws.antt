@@ -6,6 +6,7 @@ pub mod DirectCode
 pub mod DirectLaws
 pub mod Examples
 pub mod Kept
+pub mod KeysAside
 pub mod PlanningLaws
 pub mod PreparingLaws
 pub mod Reached

@@ -1,15 +1,18 @@
 -- What the engine's answers say of key columns: document 02, item 4. This file is the statement; proofs/KeyColumns.antt proves it.
 -- Specification 2.15, 9.14. Assumes nothing.
 use mathlib.Core.Path.{_≡_}
-use mathlib.Core.List.{List}
-use mathlib.Core.Option.{some}
+use mathlib.Core.List.{List, map}
+use mathlib.Core.Option.{none, some}
 use Prim.Native.Nat.{ℕ}
 use lib.Dec.{T}
-use Rattle.vocabulary.specs.Report.{Report}
+use Rattle.cells.specs.Row.{Row}
+use Rattle.vocabulary.specs.Report.{Table, Report}
 use Rattle.vocabulary.specs.KeyColumns.{question12, KeysTellApart}
 use Rattle.vocabulary.specs.declared.step.Step.{Step}
 use Rattle.text.specs.Bytes.{Bytes}
 use Rattle.text.specs.Reading.{readReport}
+use Rattle.executor.specs.Runs.{directRows}
+use Rattle.engine.specs.Answers.{answered, outcomeFor, ReportAnswer, reportQuestions, reportAnswer, directQuestions}
 use Rattle.engine.specs.Calls.{Lent, ReportCall, reportCall, DirectCall, directCall}
 use Rattle.engine.specs.declared.answer.Answer.the-variants.{Rows}
 
@@ -25,3 +28,19 @@ AnsweredKeys =
     → (r : Report) → readReport text ≡ some r → KeysTellApart r)
     × ((text : Bytes) (m : Lent) (c : DirectCall) (n : ℕ) → c ≡ directCall text m → c .answer ≡ Rows n
     → (r : Report) → readReport text ≡ some r → KeysTellApart r)
+
+-- a report without its key columns. Specification 2.15
+unfoldable pub withoutKeys : Report → Report
+withoutKeys r = record {
+  tables = map (λ (t : Table). record { columns = t .columns; keyColumn = none; rows = t .rows }) (r .tables);
+  joins = r .joins;
+  conditions = r .conditions;
+  pairs = r .pairs;
+}
+
+-- a report that is answered has the answer that it has without its key columns: the sets, the counts, the plan and the rows; and so has its
+-- direct reading. Specification 2.15
+abbrev pub KeysAside : Type 0
+KeysAside = (r : Report)
+    → ((a : ReportAnswer) → outcomeFor reportQuestions reportAnswer (some r) ≡ answered a → outcomeFor reportQuestions reportAnswer (some (withoutKeys r)) ≡ answered a)
+    × ((rows : List Row) → outcomeFor directQuestions directRows (some r) ≡ answered rows → outcomeFor directQuestions directRows (some (withoutKeys r)) ≡ answered rows)

@@ -85,7 +85,7 @@ pub struct Tally {
     pub unknown: u32,
 }
 
-/// The number of the question of document 01 that turned a text down, 2 to 11. It is never 1, since an [`Engine`]
+/// The number of the question that turned a text down, 2 to 12. It is never 1, since an [`Engine`]
 /// lends all that question 1 asks for; 8 is not used, and no text gets 10.
 #[derive(Clone, Copy, Debug, PartialEq, Eq)]
 pub struct Refused {

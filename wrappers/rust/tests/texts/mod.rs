@@ -60,6 +60,8 @@ pub fn refused() -> Vec<(u8, Vec<u8>)> {
         (3, vec![]),
         (3, bytes(&format!("T|1 {}", "D|0 ".repeat(257)))),
         (4, bytes("T|2 D|1")),
+        (12, bytes("T|2|0 D|1|7 D|1|8")),
+        (12, bytes("T|1|1")),
         (5, bytes("T|1 T|1 J|I|0|0 C|0|0|=|1|0")),
         (6, bytes(&conditions(33))),
         (6, bytes("T|1 T|1 J|I|0|1 C|0|0|=|1|1")),
