@@ -104,11 +104,11 @@ unfolding outcomeFor
 outcome-of {A} qs answer r a e f = ap (λ (o : Option ℕ). elim o as (λ z. Outcome A) [ some n ↦ refused n | none ↦ answered (answer r) ]) e ∙ ap answered f
 
 pub keys-aside : KeysAside
-keys-aside r = (
-  λ a e.
+keys-aside = (
+  λ r a e.
       let (f, g) = outcome-yes reportQuestions reportAnswer r a e in
       outcome-of reportQuestions reportAnswer (withoutKeys r) a (report-kept r f) (answer-same r ∙ g),
-  λ rows e.
+  λ r rows e.
       let (f, g) = outcome-yes directQuestions directRows r rows e in
       outcome-of directQuestions directRows (withoutKeys r) rows (direct-kept r f) (direct-same r ∙ g),
 )

@@ -5,14 +5,14 @@ use mathlib.Core.List.{List, map}
 use mathlib.Core.Option.{none, some}
 use Prim.Native.Nat.{ℕ}
 use lib.Dec.{T}
-use Rattle.cells.specs.Row.{Row}
 use Rattle.vocabulary.specs.Report.{Table, Report}
+use Rattle.vocabulary.specs.Asking.{Question}
 use Rattle.vocabulary.specs.KeyColumns.{question12, KeysTellApart}
 use Rattle.vocabulary.specs.declared.step.Step.{Step}
 use Rattle.text.specs.Bytes.{Bytes}
 use Rattle.text.specs.Reading.{readReport}
 use Rattle.executor.specs.Runs.{directRows}
-use Rattle.engine.specs.Answers.{answered, outcomeFor, ReportAnswer, reportQuestions, reportAnswer, directQuestions}
+use Rattle.engine.specs.Answers.{answered, outcomeFor, reportQuestions, reportAnswer, directQuestions}
 use Rattle.engine.specs.Calls.{Lent, ReportCall, reportCall, DirectCall, directCall}
 use Rattle.engine.specs.declared.answer.Answer.the-variants.{Rows}
 
@@ -38,9 +38,11 @@ withoutKeys r = record {
   pairs = r .pairs;
 }
 
--- a report that is answered has the answer that it has without its key columns: the sets, the counts, the plan and the rows; and so has its
--- direct reading. Specification 2.15
+-- a report that a run answers is answered alike without its key columns, by the run's questions and what it answers. Specification 2.15
+abbrev pub AnsweredAlike : {A : Type 0} → List (Question Report) → (Report → A) → Type 0
+AnsweredAlike {A} questions answer = (r : Report) (a : A)
+    → outcomeFor questions answer (some r) ≡ answered a → outcomeFor questions answer (some (withoutKeys r)) ≡ answered a
+
+-- so is each report by both runs: the sets, the counts, the plan and the rows are the same, and those of the direct reading. Specification 2.15
 abbrev pub KeysAside : Type 0
-KeysAside = (r : Report)
-    → ((a : ReportAnswer) → outcomeFor reportQuestions reportAnswer (some r) ≡ answered a → outcomeFor reportQuestions reportAnswer (some (withoutKeys r)) ≡ answered a)
-    × ((rows : List Row) → outcomeFor directQuestions directRows (some r) ≡ answered rows → outcomeFor directQuestions directRows (some (withoutKeys r)) ≡ answered rows)
+KeysAside = AnsweredAlike reportQuestions reportAnswer × AnsweredAlike directQuestions directRows
