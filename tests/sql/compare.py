@@ -48,6 +48,11 @@ def lines_of(out, letter):
     return b"".join(line for line in out.splitlines(True) if line.startswith(letter))
 
 
+# Whose key columns are counted, and from how many random reports on each kind must occur among them.
+FILES, CHANCE = "of files", "made by chance"
+ENOUGH = 100
+
+
 def reason(message):
     """Which of REASONS an SQL system's message has."""
     for name, words in REASONS.items():
@@ -152,16 +157,20 @@ class Check:
         if plan_rows != rows:
             self.difference(who + ", the rows of the plan", text, SQL=plan_rows, printed=out)
 
-    def hold_key_columns(self, text, fit):
+    def hold_key_columns(self, text, fit, whose):
         """Holds question 12, by which the key columns of a text fit or not, to the constraints
         of the SQL tables. Gives whether these were taken."""
         if all(column is None for column in translate.Query(text).key_columns):
             return True
         why = self.refuses(text)
-        self.count["key columns in SQL: " + (why or "taken")] += 1
+        self.count["key columns %s in SQL: %s" % (whose, why or "taken")] += 1
         if fit != (why is None):
             self.difference("the key columns", text, SQL=(why or "taken").encode("ascii"))
         return why is None
+
+    def has_key_columns(self, whose):
+        """Whether there were key columns that SQL takes, and some for each reason not to."""
+        return all(self.count["key columns %s in SQL: %s" % (whose, why)] for why in [*REASONS, "taken"])
 
     def hold_refused(self, text, out, who):
         """A text that question 12 turns down."""
@@ -175,10 +184,10 @@ class Check:
         if not simplified:
             self.count["random reports that are not simplified"] += 1
         if wrong:
-            self.hold_key_columns(wrong, False)
+            self.hold_key_columns(wrong, False, CHANCE)
             for program in ("report", "direct"):
                 self.hold_refused(wrong, self.run(program, wrong), program)
-        if not self.hold_key_columns(text, True):
+        if not self.hold_key_columns(text, True, CHANCE):
             return
         rows, most, tallies = self.sql(text)
         if rows:
@@ -201,7 +210,7 @@ class Check:
         if number in range(2, 8):
             self.count["files turned down by questions 2 to 7"] += 1
             return
-        taken = self.hold_key_columns(text, number != 12)
+        taken = self.hold_key_columns(text, number != 12, FILES)
         if number == 12:
             self.count["files turned down by question 12"] += 1
             for program in ("report", "direct"):
@@ -271,5 +280,6 @@ def main(name, about, system, ask, count, refuses, run_plan=None):
     print("%d differences in %.0f seconds" % (check.count["differences"], time.monotonic() - start))
     enough = (check.count["direct: rows"] and check.count["report: rows"]
               and check.count["conditions counted by SQL: unknown of some rows"]
-              and all(check.count["key columns in SQL: " + why] for why in [*REASONS, "taken"]))
+              and check.has_key_columns(FILES)
+              and (check.count["random reports"] < ENOUGH or check.has_key_columns(CHANCE)))
     return 0 if enough and not check.count["differences"] else 1
