@@ -27,14 +27,14 @@ use Rattle.text.specs.Reading.{reportOf, textLines, readReport}
 use Rattle.text.proofs.laws.ReadingLaws.{report-well-read, read-report}
 use Rattle.text.specs.QueryLines.{queryLines}
 use Rattle.text.proofs.laws.QueryLinesLaws.{same-tables, same-joins, same-conditions}
-use Rattle.plan.specs.Questions.{question9, question10, orderQuestions, question5, noneOrBuilt}
+use Rattle.plan.specs.Questions.{question9, orderQuestions, question5, noneOrBuilt}
 use Rattle.plan.specs.Plan.{groundOf, blankings}
 use Rattle.plan.specs.BlankingLists.{BlankingList}
 use Rattle.plan.proofs.laws.BlankingListLaws.{own-list}
 use Rattle.prepare.specs.Asking.{sharedQuestions, questionsOfReport, questionsOfDirect}
 use Rattle.prepare.proofs.laws.PassedLaws.{three-yes, report-accepted, few-rows}
 use Rattle.executor.specs.Runs.{directRows, runRows, reportRows, question11Direct, question11}
-use Rattle.executor.proofs.laws.RunLaws.{direct-without-order, run-rows, kinds-fit, direct-reads}
+use Rattle.executor.proofs.laws.RunLaws.{direct-without-order, run-rows, direct-reads}
 use Rattle.engine.specs.Answers.{refused, answered, ReportAnswer, reportOutcome, directOutcome, directQuestions, reportQuestions, reportAnswer}
 use Rattle.engine.specs.Calls.{Lent, question1Direct, DirectCall, directAfter, directCall, question1, ReportCall, reportAfter, reportCall, cleared, written}
 use Rattle.engine.specs.Demand3.{Demand3, SameQuery, CallsAgree, direct-11, report-11, same-answer, RoutinesAgree}
@@ -63,10 +63,6 @@ module _ (r : Report) (well : WellRead (queryOf r)) (accepted : firstNo sharedQu
   -- the tree read directly has each due row once and no other, in rising order
   pub report-reads : Reads (database r) (joinTree (queryOf r)) (directRows r)
   report-reads = direct-reads r (report-accepted r accepted well) few
-
-  -- question 10 turns down no accepted report
-  pub question10-never : T (question10 (queryOf r))
-  question10-never = kinds-fit r (report-accepted r accepted well) few
 
 -- demand 3
 pub demand-3 : Demand3

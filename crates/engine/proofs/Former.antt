@@ -1,5 +1,5 @@
 -- The proof of what stays of document 01's answers: a text that did not get 8 keeps its refusal or its S, U, M and R lines; and no call answers
--- 8. Assumes nothing.
+-- 8, nor 10. Assumes nothing.
 use mathlib.Core.Path.{_≡_, refl, sym, ap, ap₂, _∙_, subst}
 use mathlib.Core.Logic.{_≢_, inl, inr}
 use mathlib.Core.Bool.{Bool, true, false}
@@ -27,11 +27,11 @@ use Rattle.text.specs.Reading.{readReport}
 use Rattle.vocabulary.specs.KeyColumns.{keyQuestions}
 use Rattle.text.specs.TableQuestions.{tableQuestions}
 use Rattle.plan.specs.Plan.{Ground, groundOf, plannedJoins, planTrees, planTree, blankings, stepsOf}
-use Rattle.plan.specs.Questions.{queryQuestions, orderQuestions, question9, question10, kindsFit}
-use Rattle.plan.specs.Former.{question8, formerGround, formerBlankings}
+use Rattle.plan.specs.Questions.{queryQuestions, orderQuestions, question9}
+use Rattle.plan.specs.Former.{question8, formerGround, formerBlankings, question10}
 use Rattle.plan.proofs.laws.QueryLaws.{Accepted}
 use Rattle.plan.proofs.laws.BlankingListLaws.{own-list}
-use Rattle.plan.proofs.laws.FormerLaws.{sets-kept, ground-kept, former-rows}
+use Rattle.plan.proofs.laws.FormerLaws.{sets-kept, ground-kept, former-ten, former-rows}
 use Rattle.prepare.specs.Asking.{sharedQuestions, questionsOfReport, questionsOfDirect}
 use Rattle.prepare.proofs.laws.PassedLaws.{read-well, three-yes, report-accepted, few-rows}
 use Rattle.executor.specs.Runs.{results, withinLimit, directRows, question11, question11Direct, runRows, reportRows, pairCounts, reportSteps}
@@ -85,6 +85,18 @@ pairs-first js ns L =
     ∙ ap₂ _++_ (keep-append _ (zipWith pairStep js ns) (map blankingStep L) ∙ ap₂ _++_ (pairs-all js ns) (blankings-none L)) (best-none L)
     ∙ nothing-behind (zipWith pairStep js ns)
 
+-- ---- a question behind another that is answered yes
+
+pub yes-aside : (r : Report) (a b : Question Query) → T (b .1 (queryOf r))
+    → firstNo (about queryOf (a ∷ b ∷ [])) r ≡ firstNo (about queryOf (a ∷ [])) r
+unfolding about firstNo
+yes-aside r a b h = first (a .1 (queryOf r)) (b .1 (queryOf r)) h
+  where
+    first : (x y : Bool) → T y → _≡_ {A = Option ℕ} (elim x [ true ↦ elim y [ true ↦ none | false ↦ some (b .0) ] | false ↦ some (a .0) ])
+        (elim x [ true ↦ none | false ↦ some (a .0) ])
+    first true true h = refl
+    first false y h = refl
+
 -- ---- a report that passed question 8
 
 module _ (r : Report) (well : WellRead (queryOf r)) (yes : firstNo sharedQuestions r ≡ none) (eight : T (question8 (queryOf r))) where
@@ -97,11 +109,11 @@ module _ (r : Report) (well : WellRead (queryOf r)) (yes : firstNo sharedQuestio
   ground : formerGround q ≡ groundOf q
   ground = ground-kept q ok eight
 
-  -- what was asked behind question 8 has the same answers
-  order-same : firstNo (about queryOf ((9, λ (q : Query). question9 q) ∷ (10, λ (q : Query). kindsFit (formerGround q)) ∷ [])) r
+  -- what was asked behind question 8 has the same answers: question 10 turned nothing down
+  order-same : firstNo (about queryOf ((9, λ (q : Query). question9 q) ∷ (10, λ (q : Query). question10 (formerGround q)) ∷ [])) r
       ≡ firstNo (about queryOf orderQuestions) r
-  unfolding about orderQuestions firstNo question10
-  order-same = ap (λ (g : Ground). firstNo (about queryOf ((9, λ (q : Query). question9 q) ∷ (10, λ (q : Query). kindsFit g) ∷ [])) r) ground
+  unfolding orderQuestions
+  order-same = yes-aside r (9, λ (z : Query). question9 z) (10, λ (z : Query). question10 (formerGround z)) (former-ten q ok eight)
 
   eleven-same : firstNo ((11, λ (z : Report). withinLimit z (results z (planTrees (formerGround (queryOf z))))) ∷ []) r
       ≡ firstNo ((11, λ (z : Report). question11 z) ∷ []) r
@@ -137,15 +149,15 @@ module _ (r : Report) (well : WellRead (queryOf r)) (yes : firstNo sharedQuestio
 
 module _ (r : Report) (x y z : List (Question Report)) where
   -- the first no of three lists, where the first list has one, and where it has none
-  early : (n : ℕ) → firstNo x r ≡ some n → firstNo (x ++ y ++ z) r ≡ some n
+  pub early : (n : ℕ) → firstNo x r ≡ some n → firstNo (x ++ y ++ z) r ≡ some n
   early n e = no-then (x ++ y) z r n (no-then x y r n e)
 
-  late : firstNo x r ≡ none → firstNo (x ++ y ++ z) r ≡ thenNo (firstNo y r) (firstNo z r)
+  pub late : firstNo x r ≡ none → firstNo (x ++ y ++ z) r ≡ thenNo (firstNo y r) (firstNo z r)
   late e = first-append (x ++ y) z r ∙ ap (λ (o : Option ℕ). thenNo o (firstNo z r)) (none-then x y r e)
 
 -- what document 01's engine was asked between the questions of both runs and question 11
 abbrev behind : List (Question Report)
-behind = about queryOf ((8, λ (q : Query). question8 q) ∷ (9, λ (q : Query). question9 q) ∷ (10, λ (q : Query). kindsFit (formerGround q)) ∷ [])
+behind = about queryOf ((8, λ (q : Query). question8 q) ∷ (9, λ (q : Query). question9 q) ∷ (10, λ (q : Query). question10 (formerGround q)) ∷ [])
 
 abbrev Eleven : Question Report
 Eleven = (11, λ (r : Report). withinLimit r (results r (planTrees (formerGround (queryOf r)))))
@@ -157,7 +169,7 @@ module _ (r : Report) where
   eight-no e = asked-no _ _ r e
 
   eight-yes : question8 (queryOf r) ≡ true
-      → firstNo behind r ≡ firstNo (about queryOf ((9, λ (q : Query). question9 q) ∷ (10, λ (q : Query). kindsFit (formerGround q)) ∷ [])) r
+      → firstNo behind r ≡ firstNo (about queryOf ((9, λ (q : Query). question9 q) ∷ (10, λ (q : Query). question10 (formerGround q)) ∷ [])) r
   unfolding about
   eight-yes e = asked-yes _ _ r e
 
@@ -170,7 +182,7 @@ module _ (r : Report) where
 
   module _ (well : WellRead (queryOf r)) where
     -- where 8 was not the first no, the first no is the same
-    report-same : firstNo formerQuestions r ≢ some 8 → firstNo formerQuestions r ≡ firstNo reportQuestions r
+    pub report-same : firstNo formerQuestions r ≢ some 8 → firstNo formerQuestions r ≡ firstNo reportQuestions r
     unfolding formerQuestions reportQuestions questionsOfReport thenNo
     report-same n = shared (firstNo sharedQuestions r) refl
       where
@@ -250,17 +262,21 @@ direct-kept text n = go (readReport text) n
 pub lines-kept : LinesKept
 lines-kept = (λ text n. report-kept text n, λ text n. direct-kept text n)
 
--- ---- number 8
+-- ---- numbers that are not used
 
 -- an answer of one of these numbers is no other
 not-asked : (ns : List ℕ) (k : ℕ) → ¬ T (has ns k) → (a : Answer) → Decided ns a → a ≢ Refused k
 not-asked ns k n a (inl (m, e)) f = not-both a m k e f
 not-asked ns k n a (inr (m, e, i)) f = n (has-intro (subst (λ (z : ℕ). z isIn ns) (let z : m ≡ k = cc in z) i))
 
--- no call answers 8
-pub number-unused : NumberUnused
-unfolding askedOfReport askedOfDirect reportQuestions directQuestions questionsOfReport questionsOfDirect sharedQuestions tableQuestions keyQuestions queryQuestions orderQuestions about numbersOf has any
-number-unused = (
-  λ text m steps. not-asked askedOfReport 8 (λ h. h) (reportCall text m steps .answer) (report-decided text m steps),
-  λ text m. not-asked askedOfDirect 8 (λ h. h) (directCall text m .answer) (direct-decided text m),
+-- no call answers a number that no question has
+unasked : (n : ℕ) → ¬ T (has askedOfReport n) → ¬ T (has askedOfDirect n) → NumberUnused n
+unasked n x y = (
+  λ text m steps. not-asked askedOfReport n x (reportCall text m steps .answer) (report-decided text m steps),
+  λ text m. not-asked askedOfDirect n y (directCall text m .answer) (direct-decided text m),
 )
+
+-- no call answers 8, and none answers 10
+pub numbers-unused : NumberUnused 8 × NumberUnused 10
+unfolding askedOfReport askedOfDirect reportQuestions directQuestions questionsOfReport questionsOfDirect sharedQuestions tableQuestions keyQuestions queryQuestions orderQuestions about numbersOf has any
+numbers-unused = (unasked 8 (λ h. h) (λ h. h), unasked 10 (λ h. h) (λ h. h))

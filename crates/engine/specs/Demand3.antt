@@ -25,7 +25,7 @@ use Rattle.engine.specs.declared.answer.Answer.the-variants.{Rows, Refus
 
 -- Two texts and their lines (question 2 turns neither down), with the same T, D, J, C and K lines. "The query with its tables is
 -- accepted if nothing that the direct reading is asked before question 11 turns either text down [3 to 7 and 12]; an order is admitted if no
--- question that the direct reading skips [9 and 10] turns down the text that holds it", here the second. Specification 8.4, 8.5
+-- question that the direct reading skips [9] turns down the text that holds it", here the second. Specification 8.4, 8.5
 pub record SameQuery (first second : Bytes) (a b : List Line) : Type 0 where
   pub first-read : textLines first ≡ some a
   pub second-read : textLines second ≡ some b

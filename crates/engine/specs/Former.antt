@@ -1,5 +1,6 @@
--- What stays of document 01's answers under document 02, item 2: "Reports that passed before keep their S lines"; and "Number 8 is never used
--- again". This file is the statement; proofs/Former.antt proves it. Specification 6.7, 9.10. Assumes nothing.
+-- What stays of document 01's answers under document 02, item 2: "Reports that passed before keep their S lines"; and what it says that a
+-- number is not used: "Number 8 is never used again". This file is the statement; proofs/Former.antt proves it. Specification 6.7, 9.10.
+-- Assumes nothing.
 use mathlib.Core.Path.{_≡_}
 use mathlib.Core.Logic.{_≢_}
 use mathlib.Core.List.{List, [], _∷_, _++_, map, zipWith}
@@ -17,8 +18,8 @@ use Rattle.vocabulary.specs.Tallies.{tallies}
 use Rattle.vocabulary.specs.declared.step.Step.{Step}
 use Rattle.text.specs.Bytes.{Bytes}
 use Rattle.plan.specs.Plan.{plannedJoins, planTrees, planTree}
-use Rattle.plan.specs.Questions.{question9, kindsFit}
-use Rattle.plan.specs.Former.{formerSets, question8, formerGround, formerBlankings}
+use Rattle.plan.specs.Questions.{question9}
+use Rattle.plan.specs.Former.{formerSets, question8, formerGround, formerBlankings, question10}
 use Rattle.prepare.specs.Asking.{sharedQuestions}
 use Rattle.executor.specs.Runs.{results, withinLimit, directRows, question11Direct}
 use Rattle.engine.specs.Answers.{Outcome, refused, answered, outcomeBy, ReportAnswer, reportOutcome, directOutcome}
@@ -32,7 +33,7 @@ unfoldable pub formerQuestions : List (Question Report)
 formerQuestions =
     sharedQuestions
     ++ about queryOf
-    ((8, λ (q : Query). question8 q) ∷ (9, λ (q : Query). question9 q) ∷ (10, λ (q : Query). kindsFit (formerGround q)) ∷ [])
+    ((8, λ (q : Query). question8 q) ∷ (9, λ (q : Query). question9 q) ∷ (10, λ (q : Query). question10 (formerGround q)) ∷ [])
     ++ ((11, λ (r : Report). withinLimit r (results r (planTrees (formerGround (queryOf r))))) ∷ [])
 
 -- what its direct reading was asked. Specification 6.7
@@ -92,8 +93,8 @@ LinesKept =
     ((text : Bytes) → formerOutcome text ≢ refused 8 → Stays (formerOutcome text) (reportOutcome text))
     × ((text : Bytes) → formerDirect text ≢ refused 8 → formerDirect text ≡ directOutcome text)
 
--- no call of the engine or of the direct reading answers 8. Specification 9.10
-abbrev pub NumberUnused : Type 0
-NumberUnused =
-    ((text : Bytes) (m : Lent) (steps : List Step) → reportCall text m steps .answer ≢ Refused 8)
-    × ((text : Bytes) (m : Lent) → directCall text m .answer ≢ Refused 8)
+-- no call of the engine or of the direct reading answers this number. Specification 9.10, 9.12
+abbrev pub NumberUnused : ℕ → Type 0
+NumberUnused n =
+    ((text : Bytes) (m : Lent) (steps : List Step) → reportCall text m steps .answer ≢ Refused n)
+    × ((text : Bytes) (m : Lent) → directCall text m .answer ≢ Refused n)

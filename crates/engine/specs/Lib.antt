@@ -3,6 +3,7 @@ pub mod Calls
 pub mod Demand1
 pub mod Demand2
 pub mod Demand3
+pub mod FewerQuestions
 pub mod Former
 pub mod KeyColumns
 pub mod Programs

@@ -3,6 +3,7 @@ pub mod BlankingListLaws
 pub mod BuiltLaws
 pub mod FoldWords
 pub mod FormerLaws
+pub mod FourKindsLaws
 pub mod JoinLaws
 pub mod NodeWords
 pub mod PairWordLaws

@@ -1,7 +1,8 @@
--- Document 01's set rule and its question 8, which document 02, item 2, replaced. They stand here for what document 02 says of them: reports
--- that passed question 8 keep their sets. proofs/laws/FormerLaws.antt proves it, and of these reports' plans what stays with the sets; no
--- routine uses them. Specification 6.7. Assumes nothing.
-use mathlib.Core.Bool.{Bool, _&&_, _||_, not}
+-- Document 01's set rule and its question 8, which document 02, item 2, replaced, and its question 10, which item 5 took out. They stand here
+-- for what document 02 says of them: reports that passed question 8 keep their sets, and question 10 turned nothing down.
+-- proofs/laws/FormerLaws.antt proves it, and of these reports' plans what stays with the sets; no routine uses them. Specification 6.7, 9.12.
+-- Assumes nothing.
+use mathlib.Core.Bool.{Bool, true, _&&_, _||_, not}
 use mathlib.Core.List.{List, [], _∷_, _++_, map}
 use Prim.Native.Nat.{ℕ}
 use Rattle.cells.specs.Choice.{if_then_else_}
@@ -12,7 +13,7 @@ use Rattle.rows.specs.declared.kind.Kind.the-variants.{Inner, Outer, Product}
 use Rattle.vocabulary.specs.Report.{Query, conditionNumbers, namedBy, Join, joinOrder, tableNumbers}
 use Rattle.vocabulary.specs.Nodes.{tablesAt, joinNodes, treeAt, joinTrees}
 use Rattle.plan.specs.Sets.{Sets, setOf, blanksLeft, blanksRight, emptySets}
-use Rattle.plan.specs.Plan.{Ground, orderNodes, plannedJoins, asks}
+use Rattle.plan.specs.Plan.{Ground, orderNodes, usableAt, allIn, plannedJoins, asks}
 
 -- ---- the set rule
 
@@ -79,3 +80,14 @@ module _ (g : Ground) where
   -- the blanking steps that the engine made by document 01's rule. Specification 6.7
   unfoldable pub formerBlankings : List (Blanking ℕ)
   formerBlankings = keep asks (map (λ t. (t, formerMissing t)) (tableNumbers (g .query)))
+
+-- ---- question 10
+
+-- whether usable conditions fit one of the four kinds: there are none, or all are in s's sets, or all are in l's. Specification 9.12
+unfoldable pub fitsKind : List ℕ → Bool → Bool → Bool
+fitsKind [] inS′ inL = true
+fitsKind (k ∷ C) inS′ inL = inS′ || inL
+
+-- 10: "At each pair, do the usable conditions fit one of the four kinds?" Specification 9.12
+unfoldable pub question10 : Ground → Bool
+question10 g = all (λ p. fitsKind (usableAt g p) (allIn g p (p .0)) (allIn g p (p .1))) (g .order)

@@ -1,5 +1,6 @@
 pub mod BlankingLists
 pub mod Former
+pub mod FourKinds
 pub mod Plan
 pub mod Questions
 pub mod Sets

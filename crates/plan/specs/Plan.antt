@@ -35,20 +35,15 @@ inEvery S ts k = all (λ t. has (setOf S t) k) ts
 unfoldable pub usable : Query → Sets → List ℕ → List ℕ → List ℕ
 usable q S s l = keep (λ k. crosses (conditionAt q k) s l && (inEvery S s k || inEvery S l k)) (conditionNumbers q)
 
--- how a pair is joined, given its usable conditions and whether all of them are in s's sets, and in l's. "None: outer product ..
--- All in both: inner. All in l's: outer, s preserved. All in s's: outer, l preserved." What fits none of these is refused by
--- question 10, and stands here as a product. Specification 7.3, 9.12
+-- how a pair is joined, given its usable conditions and whether all of them are in s's sets, and in l's: one of four kinds. "None:
+-- outer product .. All in both: inner. All in l's: outer, s preserved. All in s's: outer, l preserved." The last case, which is none
+-- of these, does not occur: `four-kinds` (proofs/laws/FourKindsLaws.antt). Specification 7.3, 7.12
 unfoldable pub paired : ℕ → ℕ → List ℕ → Bool → Bool → Join
 paired s l [] inS′ inL = record { kind = Product; left = s; right = l; conditions = [] }
 paired s l (k ∷ C) true true = record { kind = Inner; left = s; right = l; conditions = k ∷ C }
 paired s l (k ∷ C) false true = record { kind = Outer; left = s; right = l; conditions = k ∷ C }
 paired s l (k ∷ C) true false = record { kind = Outer; left = l; right = s; conditions = k ∷ C }
 paired s l (k ∷ C) false false = record { kind = Product; left = s; right = l; conditions = [] }
-
--- whether the usable conditions fit one of the four kinds. Specification 9.12
-unfoldable pub fitsKind : List ℕ → Bool → Bool → Bool
-fitsKind [] inS′ inL = true
-fitsKind (k ∷ C) inS′ inL = inS′ || inL
 
 -- ---- the plan
 
@@ -79,10 +74,6 @@ module _ (g : Ground) where
   -- whether all of a pair's usable conditions are in the sets of every table under a node. Specification 7.3
   unfoldable pub allIn : Pair → ℕ → Bool
   allIn p i = all (inEvery (g .sets) (tablesAt orderNodes i)) (usableAt p)
-
-  -- whether a pair's usable conditions fit one of the four kinds. Specification 9.12
-  unfoldable pub pairFits : Pair → Bool
-  pairFits p = fitsKind (usableAt p) (allIn p (p .0)) (allIn p (p .1))
 
   -- a pair of the order as the plan joins it. Specification 7.3
   unfoldable pub planned : Pair → Join

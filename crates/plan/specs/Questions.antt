@@ -1,5 +1,5 @@
--- Questions 5 to 10, put to the query: document 01, "Questions, in order". There is no question 8 since document 02, item 2.
--- Specification 9.7, 9.8, 9.9, 9.10, 9.11, 9.12. Assumes nothing.
+-- Questions 5 to 7 and 9, put to the query: document 01, "Questions, in order". There is no question 8 since document 02, item 2, and no
+-- question 10 since its item 5. Specification 9.7, 9.8, 9.9, 9.10, 9.11, 9.12. Assumes nothing.
 use mathlib.Core.Bool.{Bool, true, _&&_, not}
 use mathlib.Core.List.{List, [], _∷_, _++_}
 use Prim.Native.Nat.{ℕ}
@@ -13,7 +13,7 @@ use Rattle.rows.specs.Lists.{has, all, any}
 use Rattle.vocabulary.specs.Report.{Query, tableCount, joinPairs, Pair, Join, conditionAt}
 use Rattle.vocabulary.specs.Nodes.{wellBuilt, tablesAt, joinNodes}
 use Rattle.vocabulary.specs.Asking.{Question}
-use Rattle.plan.specs.Plan.{crosses, Ground, pairFits, groundOf}
+use Rattle.plan.specs.Plan.{crosses}
 
 -- ---- 5 and 9: how the joins and the order are built
 
@@ -62,16 +62,6 @@ question7 q =
     (λ k. crosses (conditionAt q k) (tablesAt (joinNodes q) (j .left)) (tablesAt (joinNodes q) (j .right))) (j .conditions))
     (q .joins)
 
--- ---- 10: the kinds of the pairs
-
--- whether the usable conditions of every pair fit one of the four kinds. Specification 9.12
-unfoldable pub kindsFit : Ground → Bool
-kindsFit g = all (pairFits g) (g .order)
-
--- 10: "At each pair, do the usable conditions fit one of the four kinds?" Specification 9.12
-unfoldable pub question10 : Query → Bool
-question10 q = kindsFit (groundOf q)
-
 -- ---- the questions in order
 
 -- what the query is asked. Specification 9.7, 9.8, 9.9, 9.10
@@ -82,6 +72,6 @@ queryQuestions =
     ∷ (7, λ (q : Query). question7 q)
     ∷ []
 
--- what the order is asked: "The direct reading skips 9 and 10". Specification 9.2, 9.11, 9.12
+-- what the order is asked: "The direct reading skips 9 and 10", and there is no 10. Specification 9.2, 9.11, 9.12
 unfoldable pub orderQuestions : List (Question Query)
-orderQuestions = (9, λ (q : Query). question9 q) ∷ (10, λ (q : Query). question10 q) ∷ []
+orderQuestions = (9, λ (q : Query). question9 q) ∷ []

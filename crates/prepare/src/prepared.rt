@@ -1,4 +1,4 @@
-// A query made ready for its run: questions 9 and 10, the sets and the plan.
+// A query made ready for its run: question 9, the sets and the plan.
 use cells::limits::TABLES;
 use plan::steps::Plan;
 use vocabulary::query::StoredQuery;
@@ -29,7 +29,7 @@ pub fn turned_away(q: StoredQuery, number: u8) -> Prepared
     }
 }
 
-// Questions 9 and 10 of a query that passed those before, its sets and its plan.
+// Question 9 of a query that passed those before, its sets and its plan.
 pub fn plan_query(q: StoredQuery) -> Prepared
     requires { ⌜ Counted q × T (question5 (queryIn q)) ⌝ }
     ensures { λ r. ⌜ QueryPlanned q r ⌝ }
@@ -38,9 +38,6 @@ pub fn plan_query(q: StoredQuery) -> Prepared
         return turned_away(q, 9);
     }
     let sets = plan::blanking::blanking_sets(q);
-    if !questions::kinds::all_fit(q, sets) {
-        return turned_away(q, 10);
-    }
     let list = plan::steps::steps_of(q, sets);
     Prepared {
         number: 0,

@@ -1,11 +1,13 @@
 -- Demand 3 is not empty: document 01's report with its order changed and a list of steps that is not the engine's own, computed; and a
--- report that document 01's question 8 turned down, which document 02, item 2, answers; and one that it passed and that loses a blanking step.
--- Assumes nothing.
+-- report that document 01's question 8 turned down, which document 02, item 2, answers; one that it passed and that loses a blanking step; and
+-- one whose conditions would pull a pair different ways by document 01's sets (document 02, item 5). Assumes nothing.
 use mathlib.Core.Path.{_≡_, refl}
+use mathlib.Core.Bool.{true, false}
 use mathlib.Core.List.{List, [], _∷_}
 use mathlib.Core.Option.{none, some}
 use Prim.Native.Nat.{ℕ}
 use Rattle.rows.specs.Nullification.{Blanking}
+use Rattle.rows.specs.declared.kind.Kind.the-variants.{Inner}
 use Rattle.vocabulary.specs.Asking.{firstNo}
 use Rattle.vocabulary.specs.Report.{queryOf}
 use Rattle.text.specs.Bytes.{Bytes}
@@ -13,8 +15,9 @@ use Rattle.text.specs.Lines.{Line}
 use Rattle.text.specs.Reading.{textLines, reportOf}
 use Rattle.text.specs.QueryLines.{isOrder, queryLines}
 use Rattle.plan.specs.Questions.{orderQuestions}
-use Rattle.plan.specs.Plan.{groundOf, blankings}
-use Rattle.plan.specs.Former.{formerGround, formerBlankings}
+use Rattle.plan.specs.Plan.{groundOf, usableAt, planned, blankings}
+use Rattle.plan.specs.Former.{formerSets, formerGround, formerBlankings, question10}
+use Rattle.plan.specs.FourKinds.{inOneAlone, pullApart}
 use Rattle.plan.specs.BlankingLists.{BlankingList}
 use Rattle.plan.proofs.laws.BlankingListLaws.{isBlankingList, blanking-list}
 use Rattle.prepare.specs.Asking.{sharedQuestions}
@@ -121,3 +124,38 @@ chained-formerly = refl
 chained-now : blankings (groundOf (queryOf (reportOf (linesIn chained)))) ≡ []
 unfolding computing chained linesIn text notation
 chained-now = refl
+
+-- ---- conditions that would pull a pair different ways
+
+-- (0 L 1) I (2 L 3), where the inner join names tables 1 and 3, which are right sides below it; the last pair is 0 and 3 with 2 and 1
+unfoldable pub crossed : Bytes
+crossed = text "T|1 T|1 T|1 T|1 J|L|0|1 C|0|0|=|1|0 J|L|2|3 C|2|0|=|3|0 J|I|4|5 C|1|0|=|3|0 P|0|3 P|2|1 P|4|5"
+
+crossed-accepted : firstNo sharedQuestions (reportOf (linesIn crossed)) ≡ none
+unfolding computing crossed linesIn text notation
+crossed-accepted = refl
+
+-- at that pair three conditions are usable, and it is an inner join
+crossed-planned : planned (groundOf (queryOf (reportOf (linesIn crossed)))) (4, 5)
+    ≡ record { kind = Inner; left = 4; right = 5; conditions = 0 ∷ 1 ∷ 2 ∷ [] }
+unfolding computing crossed linesIn text notation
+crossed-planned = refl
+
+-- with document 01's sets they would be usable too, and conditions 1 and 0 would pull the pair different ways, so that question 10 would say no:
+-- it is the sets of document 02, item 2, that make them pull it the same way
+crossed-usable : usableAt (formerGround (queryOf (reportOf (linesIn crossed)))) (4, 5) ≡ 0 ∷ 1 ∷ 2 ∷ []
+unfolding computing formerly crossed linesIn text notation
+crossed-usable = refl
+
+crossed-apart : pullApart (formerSets (queryOf (reportOf (linesIn crossed)))) (0 ∷ 3 ∷ []) (2 ∷ 1 ∷ []) 1 0 ≡ true
+unfolding computing formerly crossed linesIn text notation pullApart inOneAlone
+crossed-apart = refl
+
+crossed-formerly : question10 (formerGround (queryOf (reportOf (linesIn crossed)))) ≡ false
+unfolding computing formerly crossed linesIn text notation
+crossed-formerly = refl
+
+-- document 01's engine did not come to that question: question 8 turned the report down before
+crossed-refused : formerOutcome crossed ≡ refused 8
+unfolding computing formerly crossed text notation
+crossed-refused = refl

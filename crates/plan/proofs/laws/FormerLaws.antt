@@ -1,5 +1,6 @@
 -- A report that passed document 01's question 8 keeps its sets under document 02's rule (document 02, item 2), so its pairs are joined as
--- before; its blanking steps may go, and none is new; the rows are the same. Assumes nothing.
+-- before; its blanking steps may go, and none is new; the rows are the same. Document 01's question 10 turned no such report down, and turns
+-- none down with the sets of document 02 (its item 5). Assumes nothing.
 use mathlib.Core.Path.{_≡_, refl, sym, ap, _∙_, subst}
 use mathlib.Core.Logic.{_↔_, _⊎_, inl, inr, ⊎-elim, ⊎-map, by-cases}
 use mathlib.Core.Bool.{Bool, true, false, not, _&&_, _||_}
@@ -14,7 +15,7 @@ use Rattle.cells.specs.Choice.{if_then_else_}
 use Rattle.cells.specs.Condition.{namesOf}
 use Rattle.cells.proofs.laws.BoolLaws.{same-test}
 use Rattle.rows.specs.Lists.{_isIn_, any, has, range}
-use Rattle.rows.proofs.laws.ListLaws.{decT, if-elim, keep-elim, keep-intro, getD-range, length-range, append-left, append-right, or-left, or-right, all-elim, any-elim, any-intro, has-intro, has-elim, flatMap-intro, flatMap-elim, keep-same}
+use Rattle.rows.proofs.laws.ListLaws.{decT, all-intro, if-elim, keep-elim, keep-intro, getD-range, length-range, append-left, append-right, or-left, or-right, all-elim, any-elim, any-intro, has-intro, has-elim, flatMap-intro, flatMap-elim, keep-same}
 use Rattle.rows.specs.Rows.{ordered}
 use Rattle.rows.specs.Nullification.{planRows}
 use Rattle.rows.specs.Trees.{Database, Tree, leaf, join, tablesUnder, rowsOf}
@@ -22,21 +23,22 @@ use Rattle.rows.specs.declared.kind.Kind.the-variants.{Inner, Outer, Product}
 use Rattle.rows.proofs.laws.ShapesLaws.{BlanksLeft, BlanksRight, Lawful, HasTable, table-listed}
 use Rattle.rows.proofs.laws.Sets.{Applied}
 use Rattle.rows.proofs.laws.Preserved.{RightOfOuter, NoProduct, preserved-everywhere}
-use Rattle.vocabulary.specs.Report.{Query, Join, tableCount, tableNumbers, conditionNumbers, conditionAt, namedBy, joinPairs}
+use Rattle.vocabulary.specs.Report.{Query, Join, tableCount, tableNumbers, conditionNumbers, conditionAt, namedBy, joinPairs, joinOrder}
 use Rattle.vocabulary.specs.Nodes.{tablesAt, treeAt, treeOf, joinNodes, joinTrees, joinTree, nodesOf, treesOf}
 use Rattle.vocabulary.proofs.laws.NodeLaws.{Matched}
 use Rattle.vocabulary.proofs.laws.WellRead.{Numbered}
 use Rattle.plan.specs.Sets.{Sets, setOf, blanksLeft, blanksRight, taken, isBlanked, setAfter, setsAfter, setsBy, emptySets, blankingSets}
-use Rattle.plan.specs.Plan.{Ground, groundOf, orderNodes, plannedJoins, planTree, pairSets, appliedSets, missing}
+use Rattle.plan.specs.Plan.{Ground, groundOf, orderNodes, usableAt, plannedJoins, planTree, pairSets, appliedSets, missing}
 use Rattle.plan.specs.Questions.{question9}
-use Rattle.plan.specs.Former.{formerTaken, formerAfter, formerBy, formerSets, rightSides, namesRightSide, question8, formerGround, formerApplied, formerMissing, formerBlankings}
+use Rattle.plan.specs.Former.{formerTaken, formerAfter, formerBy, formerSets, rightSides, namesRightSide, question8, formerGround, formerApplied, formerMissing, formerBlankings, fitsKind, question10}
 use Rattle.plan.proofs.laws.StageLaws.{Stages, allMade, makes, OpenApart, apart-next, stages-count}
 use Rattle.plan.proofs.laws.SetLaws.{blanks-left, blanks-right, Inside, Blanked, blanked-elim, Gains, stays, takes, after-intro, set-after, Exact, exact-next}
 use Rattle.plan.proofs.laws.SetWords.{tab-same, Proper, proper-empty, proper-after}
 use Rattle.plan.proofs.laws.BuiltLaws.{each-node, nodes-alike, tables-exist, staged, apart-first, exact-first}
 use Rattle.plan.proofs.laws.TiedLaws.{nodes-shaped}
-use Rattle.plan.proofs.laws.QueryLaws.{Accepted, joins-matched, JoinFits, join-fits, query-built}
+use Rattle.plan.proofs.laws.QueryLaws.{Accepted, names-only, joins-matched, JoinFits, join-fits, query-built}
 use Rattle.plan.proofs.laws.PlanLaws.{close-none}
+use Rattle.plan.proofs.laws.FourKindsLaws.{all-in-one}
 use Rattle.plan.proofs.laws.Reordering.{same-rows-by}
 use Rattle.plan.proofs.laws.BlankingListLaws.{steps-elim, steps-intro}
 
@@ -164,18 +166,6 @@ right-listed (join Product C A B) t (inl h) = append-left (rightSides B) (right-
 right-listed (join Product C A B) t (inr (inl h)) = append-right (rightSides A) (right-listed B t h)
 right-listed (join Product C A B) t (inr (inr h)) = absurd (h .0)
 
--- conditions of which nothing is known but the tables that they name
-abbrev named : Query → Database ℕ
-named q = record { width = tableCount q; rowCount = λ t. 0; holds = λ k row. false }
-
-abbrev names-only : (q : Query) → Lawful (named q)
-names-only q = record {
-  Names = λ k t. t isIn namesOf (conditionAt q k);
-  few = λ t. omega arith;
-  strict = λ k row t h n. absurd h;
-  local = λ k a b h. refl;
-}
-
 module _ (q : Query) (ok : Accepted q) (eight : T (question8 q)) where
   -- question 8 at one side of a join
   free : (j : Join) (b : Bool) (i : ℕ) → T (not (b && namesRightSide q (j .conditions) i)) → T b → (c : ℕ) → c isIn j .conditions
@@ -226,6 +216,23 @@ module _ (q : Query) (ok : Accepted q) (eight : T (question8 q)) where
   -- what the plan is made of is the same: the pairs are joined as before, and M lines stay
   pub ground-kept : formerGround q ≡ groundOf q
   ground-kept = rw sets-kept
+
+-- ---- question 10
+
+fits-one-way : (C : List ℕ) (a b : Bool) → T a ⊎ T b → T (fitsKind C a b)
+unfolding fitsKind
+fits-one-way [] a b h = tt
+fits-one-way (k ∷ C) a b (inl h) = or-left a b h
+fits-one-way (k ∷ C) a b (inr h) = or-right a b h
+
+-- question 10 turns down no accepted query
+pub ten-yes : (q : Query) → Accepted q → T (question10 (groundOf q))
+unfolding question10
+ten-yes q ok = all-intro _ (joinOrder q) (λ p m. fits-one-way (usableAt (groundOf q) p) _ _ (all-in-one q ok p))
+
+-- with document 01's sets it turned down none that had passed question 8
+pub former-ten : (q : Query) → Accepted q → T (question8 q) → T (question10 (formerGround q))
+former-ten q ok eight = subst (λ (g : Ground). T (question10 g)) (sym (ground-kept q ok eight)) (ten-yes q ok)
 
 -- ---- blanking steps
 

@@ -27,12 +27,12 @@ use Rattle.vocabulary.proofs.laws.BitLaws.{has-bits, same-bits, bit-elim, bit-i
 use Rattle.vocabulary.specs.inner.Words.{everyBit, everyUnless, wordTables}
 use Rattle.vocabulary.proofs.laws.WordLaws.{or-elim, or-intro, and-elim, and-intro, meet-elim, meet-intro}
 use Rattle.plan.specs.Sets.{Sets, setOf}
-use Rattle.plan.specs.Plan.{between, crosses, inEvery, usable, Ground, orderNodes, usableAt, allIn, paired, fitsKind, pairFits, planned, plannedJoins}
+use Rattle.plan.specs.Plan.{between, crosses, inEvery, usable, Ground, orderNodes, usableAt, allIn, paired, planned, plannedJoins}
 use Rattle.plan.specs.inner.Words.{setWords, nodeWords, namedBits, conditionBits, joinBits}
 use Rattle.plan.proofs.laws.JoinLaws.{condition-elim, condition-intro, named-word}
 use Rattle.plan.proofs.laws.SetWords.{set-word, number-elim, Proper, node-word}
 use Rattle.plan.proofs.laws.FoldWords.{nodes-below, nodes-most}
-use Rattle.plan.specs.inner.PairWords.{betweenBits, crossesBits, commonBits, crossingBits, withinBits, usableWord, usableBits, usableIn, pairedBits, fitsBits, plannedBits}
+use Rattle.plan.specs.inner.PairWords.{betweenBits, crossesBits, commonBits, crossingBits, withinBits, usableWord, usableBits, usableIn, pairedBits, plannedBits}
 
 -- ---- the two kinds of conditions
 
@@ -207,20 +207,11 @@ module _ (q : Query) where
   paired-word p (k ∷ C) false true n = rw (ne-eqb (bitsOf (k ∷ C)) 0 (some-bits k C), condition-is (k ∷ C) n, names-is (k ∷ C) n)
   paired-word p (k ∷ C) false false n = rw (ne-eqb (bitsOf (k ∷ C)) 0 (some-bits k C), no-conditions, no-names)
 
-fits-kind : (C : List ℕ) (a b : Bool) → fitsBits (record { conditions = bitsOf C; left = a; right = b }) ≡ fitsKind C a b
-unfolding fitsBits fitsKind
-fits-kind [] a b = rw bits-none
-fits-kind (k ∷ C) a b = rw (ne-eqb (bitsOf (k ∷ C)) 0 (some-bits k C))
-
 module _ (g : Ground) where
   -- how a pair of the order is joined
   pub planned-word : (p : Pair) → pairedBits (g .query) p (usableIn g p) ≡ joinBits (g .query) (planned g p)
   unfolding planned usableIn
   planned-word p = paired-word (g .query) p (usableAt g p) (allIn g p (p .0)) (allIn g p (p .1)) (usable-in-numbers g p)
-
-  pub fits-word : (p : Pair) → fitsBits (usableIn g p) ≡ pairFits g p
-  unfolding usableIn pairFits
-  fits-word p = fits-kind (usableAt g p) (allIn g p (p .0)) (allIn g p (p .1))
 
   pub planned-at : (i : ℕ) (p : Pair) → getD (g .order) i p ≡ p → getD (plannedJoins g) i (planned g p) ≡ planned g p
   unfolding plannedJoins

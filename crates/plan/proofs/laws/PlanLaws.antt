@@ -1,24 +1,23 @@
--- The plan's tree of an admitted order: its shape, that it fits the blanking sets, what is applied; and that with closed
--- sets the usable conditions of every pair fit a kind. Assumes nothing.
-use mathlib.Core.Path.{refl, _≡_, ap₂, subst}
-use mathlib.Core.Logic.{inl, inr, _⊎_, ⊎-elim, _↔_, by-cases}
+-- The plan's tree of an admitted order: its shape, that it fits the blanking sets, what is applied. Assumes nothing.
+use mathlib.Core.Path.{refl, _≡_, ap₂}
+use mathlib.Core.Logic.{inl, inr, _⊎_, ⊎-elim, _↔_}
 use mathlib.Core.Bool.{_&&_, _||_, Bool, true, false}
 use mathlib.Core.List.{List, [], _∷_, map}
 use Prim.Native.Nat.{ℕ, _<_}
 use lib.Dec.{T}
-use mir.Facts.{and-yes, or-yes}
+use mir.Facts.{and-yes}
 use Rattle.cells.specs.Condition.{namesOf}
-use Rattle.rows.specs.Lists.{_isIn_, has, all}
-use Rattle.rows.proofs.laws.ListLaws.{keep-elim, all-elim, has-elim, all-intro, has-intro, here, there, decT, or-left, or-right, Includes}
+use Rattle.rows.specs.Lists.{_isIn_, has}
+use Rattle.rows.proofs.laws.ListLaws.{keep-elim, all-elim, has-elim, all-intro, has-intro, here, Includes}
 use Rattle.rows.specs.Trees.{Database, Tree}
 use Rattle.rows.proofs.laws.ShapesLaws.{Lawful, BlanksLeft, BlanksRight, HasTable, Shaped}
-use Rattle.rows.proofs.laws.Sets.{Applied, Closed, Fits}
+use Rattle.rows.proofs.laws.Sets.{Applied, Fits}
 use Rattle.vocabulary.specs.Report.{Query, conditionNumbers, conditionAt, Pair, tableCount, joinPairs, orderOr, joinOrder, Join}
 use Rattle.vocabulary.specs.Nodes.{wellBuilt, tablesAt, treeOf}
 use Rattle.vocabulary.proofs.laws.NodeLaws.{SidesAre, Matched, noPair, nextPair}
 use Rattle.plan.specs.Sets.{Sets, setOf}
-use Rattle.plan.specs.Plan.{crosses, inEvery, usable, paired, Ground, fitsKind, orderNodes, usableAt, allIn, pairFits, planned, plannedJoins, planTrees, planTree, pairSets, appliedSets}
-use Rattle.plan.specs.Questions.{noneOrBuilt, question5, question9, kindsFit}
+use Rattle.plan.specs.Plan.{crosses, inEvery, usable, paired, Ground, orderNodes, usableAt, allIn, planned, plannedJoins, planTrees, planTree, pairSets, appliedSets}
+use Rattle.plan.specs.Questions.{noneOrBuilt, question5, question9}
 use Rattle.plan.proofs.laws.BuiltLaws.{each-node, nodes-alike, tables-exist, of-last, last-has-every, sets-applied}
 use Rattle.plan.proofs.laws.TiedLaws.{crosses-across, crosses-inside, Tied, nodes-shaped}
 
@@ -38,7 +37,7 @@ pub every-elim : (S : Sets) (ts : List ℕ) (c : ℕ) → T (inEvery S ts c) →
 unfolding inEvery
 every-elim S ts c h t m = has-elim (setOf S t) c (all-elim (λ t. has (setOf S t) c) ts h t m)
 
-every-intro : (S : Sets) (ts : List ℕ) (c : ℕ) → ((t : ℕ) → t isIn ts → c isIn setOf S t) → T (inEvery S ts c)
+pub every-intro : (S : Sets) (ts : List ℕ) (c : ℕ) → ((t : ℕ) → t isIn ts → c isIn setOf S t) → T (inEvery S ts c)
 unfolding inEvery
 every-intro S ts c h = all-intro (λ t. has (setOf S t) c) ts (λ t m. has-intro (h t m))
 
@@ -183,45 +182,3 @@ module _ (g : Ground) where
       each : (S : Sets) → map (g .close) S ≡ S
       each [] = refl
       each (C ∷ S) = ap₂ _∷_ (h C) (each S)
-
-  -- ---- the kinds of the pairs
-
-  not-all : {A : Type 0} (f : A → Bool) (l : List A) → ¬ T (all f l) → (a : A) × a isIn l × ¬ T (f a)
-  unfolding all
-  not-all f [] h = absurd (h tt)
-  not-all f (x ∷ l) h = find (f x) refl (not-all f l)
-    where
-      find : (b : Bool) → f x ≡ b → (¬ T (all f l) → (a : _) × a isIn l × ¬ T (f a)) → (a : _) × a isIn (x ∷ l) × ¬ T (f a)
-      find true e r = let (a, m, n) = r (λ k. h (rw e k)) in (a, there m, n)
-      find false e r = (x, here refl, λ k. subst T e k)
-
-  module _ {D : Database ℕ} (laws : Lawful D) (names : (k t : ℕ) → (laws .Names k t ↔ t isIn namesOf (conditionAt (g .query) k)))
-      (closed : Closed laws (setOf (g .sets))) where
-    -- with closed sets the usable conditions of a pair are all in the one node's sets or all in the other's
-    one-way : (p : Pair) → T (allIn g p (p .0)) ⊎ T (allIn g p (p .1))
-    unfolding allIn usableAt
-    one-way p = by-cases (decT (allIn g p (p .0))) (λ h. inl h) (λ h. inr (other (not-all (inEvery (g .sets) (s p)) (usableAt g p) h)))
-      where
-        other : (c : ℕ) × c isIn usableAt g p × ¬ T (inEvery (g .sets) (s p) c) → T (all (inEvery (g .sets) (l p)) (usableAt g p))
-        other (c, m, n) = all-intro (inEvery (g .sets) (l p)) (usableAt g p) (λ d k. ⊎-elim (λ x. absurd (n (drawn d k x))) (λ x. x)
-            (or-yes (inEvery (g .sets) (s p) d) (inEvery (g .sets) (l p) d) (usable-elim (g .query) (g .sets) (s p) (l p) d k .2)))
-          where
-            inL : T (inEvery (g .sets) (l p) c)
-            inL = ⊎-elim (λ x. absurd (n x)) (λ x. x)
-                (or-yes (inEvery (g .sets) (s p) c) (inEvery (g .sets) (l p) c) (usable-elim (g .query) (g .sets) (s p) (l p) c m .2))
-
-            drawn : (d : ℕ) → d isIn usableAt g p → T (inEvery (g .sets) (s p) d) → T (inEvery (g .sets) (s p) c)
-            drawn d k x =
-                let (a, (v, nv, lv)) = crosses-across (s p) (l p) (conditionAt (g .query) d) (usable-elim (g .query) (g .sets) (s p) (l p) d k .1) in
-                every-intro (g .sets) (s p) c (λ t h.
-                closed t v d (every-elim (g .sets) (s p) d x t h) (names d v .1 nv) c (every-elim (g .sets) (l p) c inL v lv))
-
-    -- the usable conditions of every pair fit a kind
-    pub kinds-fit : T (kindsFit g)
-    unfolding kindsFit pairFits fitsKind
-    kinds-fit = all-intro _ (g .order) (λ p m. either p (usableAt g p) (one-way p))
-      where
-        either : (p : Pair) (C : List ℕ) → T (allIn g p (p .0)) ⊎ T (allIn g p (p .1)) → T (fitsKind C (allIn g p (p .0)) (allIn g p (p .1)))
-        either p [] h = tt
-        either p (k ∷ C) (inl h) = or-left (allIn g p (p .0)) (allIn g p (p .1)) h
-        either p (k ∷ C) (inr h) = or-right (allIn g p (p .0)) (allIn g p (p .1)) h

@@ -1,6 +1,7 @@
 -- The query's tree of a report that questions 5 to 7 do not turn down: its shape, and that the blanking sets are closed. Assumes nothing.
 use mathlib.Core.Path.{_≡_, _∙_, refl, subst}
 use mathlib.Core.Logic.{inl, _↔_, by-cases}
+use mathlib.Core.Bool.{false}
 use mathlib.Core.List.{List, [], _∷_, _++_, map}
 use Prim.Native.Nat.{ℕ, _<_}
 use native.Mathlib.Decide.{decLt}
@@ -48,6 +49,18 @@ no-set q nodes js t h = List·getD-eq-default (setsBy q nodes js (emptySets q)) 
 pub joins-matched : {G : Join → Type 0} (js : List Join) → ((j : Join) → j isIn js → G j) → Matched G (map (λ (j : Join). (j .left, j .right)) js) js
 joins-matched [] h = noPair
 joins-matched (j ∷ js) h = nextPair (inl (refl, refl)) (h j (here refl)) (joins-matched js (λ i m. h i (there m)))
+
+-- conditions of which nothing is known but the tables that they name
+abbrev pub named : Query → Database ℕ
+named q = record { width = tableCount q; rowCount = λ t. 0; holds = λ k row. false }
+
+abbrev pub names-only : (q : Query) → Lawful (named q)
+names-only q = record {
+  Names = λ k t. t isIn namesOf (conditionAt q k);
+  few = λ t. omega arith;
+  strict = λ k row t h n. absurd h;
+  local = λ k a b h. refl;
+}
 
 module _ (q : Query) (ok : Accepted q) where
   -- what the questions say of one J line
@@ -114,3 +127,7 @@ module _ (q : Query) (ok : Accepted q) where
 
     pub query-fits : Fits (setOf (blankingSets q)) (joinTree q)
     query-fits = applied-fits laws (setOf (blankingSets q)) (joinTree q) (λ t c y. query-sets t c .1 y)
+
+  -- the blanking sets are closed whatever the cells are: the tables that conditions name are enough
+  pub named-closed : Closed (names-only q) (setOf (blankingSets q))
+  named-closed = query-closed (names-only q) refl (λ k t. (λ n. n, λ n. n))

@@ -18,9 +18,9 @@ use Rattle.vocabulary.specs.Report.{Query, tableCount, conditionAt, joinOrder}
 use Rattle.vocabulary.specs.Nodes.{joinTree, wellBuilt}
 use Rattle.plan.specs.Sets.{setOf, Sets, blankingSets}
 use Rattle.plan.specs.Plan.{Ground, missing, pairSets, appliedSets, groundOf, planTree}
-use Rattle.plan.specs.Questions.{question9, question10}
+use Rattle.plan.specs.Questions.{question9}
 use Rattle.plan.proofs.laws.QueryLaws.{Accepted, query-shaped, query-sets, query-closed, query-fits, query-tables}
-use Rattle.plan.proofs.laws.PlanLaws.{order-built, plan-shaped, plan-fits, plan-tables, plan-applied, close-none, kinds-fit}
+use Rattle.plan.proofs.laws.PlanLaws.{order-built, plan-shaped, plan-fits, plan-tables, plan-applied, close-none}
 use Rattle.plan.specs.BlankingLists.{BlankingList}
 
 -- a missing condition is in the table's set and not in its applied set
@@ -37,11 +37,6 @@ module _ (q : Query) (ok : Accepted q) {D : Database ℕ} (laws : Lawful D) (wid
     (names : (k t : ℕ) → (laws .Names k t ↔ t isIn namesOf (conditionAt q k))) where
   abbrev g : Ground
   g = groundOf q
-
-  -- question 10 turns down no accepted query
-  pub question10-yes : T (question10 q)
-  unfolding question10
-  question10-yes = kinds-fit g laws names (query-closed q ok laws wide names)
 
   module _ (nine : T (question9 q)) (L : List (Blanking ℕ)) where
     built : T (wellBuilt (tableCount q) (joinOrder q))

@@ -1,5 +1,5 @@
 -- A pair's usable conditions and how it is joined, over words. For the functions of src/pairs.rt. Assumes nothing.
-use mathlib.Core.Bool.{Bool, false, _&&_, _||_, true}
+use mathlib.Core.Bool.{Bool, false, _&&_, _||_}
 use mathlib.Core.List.{List}
 use Prim.Native.Nat.{ℕ}
 use lib.Bits.{bitAnd, bitOr}
@@ -55,10 +55,6 @@ usableBits q sets s l = record {
 -- the same of a pair of the order
 unfoldable pub usableIn : Ground → Pair → Usable
 usableIn g p = record { conditions = bitsOf (usableAt g p); left = allIn g p (p .0); right = allIn g p (p .1) }
-
--- whether they fit one of the four kinds
-unfoldable pub fitsBits : Usable → Bool
-fitsBits u = if eqb (u .conditions) 0 then true else u .left || u .right
 
 -- how a pair is joined
 unfoldable pub pairedBits : Query → Pair → Usable → BitJoin

@@ -51,20 +51,23 @@ read-well bs r e = go (textLines bs) e
     go none e = clash cc
     go (some ls) e = let x : reportOf ls ≡ r = cc in subst (λ (z : Report). WellRead (queryOf z)) x (report-well-read ls)
 
+-- a query that questions 5 to 7 do not turn down is accepted, whatever its cells
+pub query-accepted : (q : Query) → WellRead q → firstNo queryQuestions q ≡ none → Accepted q
+unfolding queryQuestions
+query-accepted q well passed = record {
+  read = well;
+  five = all-yes queryQuestions q passed (5, λ (q : Query). question5 q) (here refl);
+  six = all-yes queryQuestions q passed (6, λ (q : Query). question6 q) (there (here refl));
+  seven = all-yes queryQuestions q passed (7, λ (q : Query). question7 q) (there (there (here refl)));
+}
+
 module _ (r : Report) (yes : Passed r) where
   passed-three : T (question3 r)
   unfolding tableQuestions
   passed-three = all-yes tableQuestions r (yes .0) (3, λ (z : Report). question3 z) (here refl)
 
-  -- questions 5 to 7 say that its query is accepted
   passed-accepted : WellRead (queryOf r) → Accepted (queryOf r)
-  unfolding queryQuestions
-  passed-accepted well = record {
-    read = well;
-    five = all-yes queryQuestions (queryOf r) (yes .1) (5, λ (q : Query). question5 q) (here refl);
-    six = all-yes queryQuestions (queryOf r) (yes .1) (6, λ (q : Query). question6 q) (there (here refl));
-    seven = all-yes queryQuestions (queryOf r) (yes .1) (7, λ (q : Query). question7 q) (there (there (here refl)));
-  }
+  passed-accepted well = query-accepted (queryOf r) well (yes .1)
 
 module _ (r : Report) (yes : firstNo sharedQuestions r ≡ none) where
   abbrev others : List (Question Report)

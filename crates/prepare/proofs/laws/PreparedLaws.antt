@@ -10,18 +10,17 @@ use mir.Facts.{and-yes}
 use Rattle.cells.specs.Limits.{mostPairs}
 use Rattle.vocabulary.specs.Report.{Report, queryOf, joinOrder}
 use Rattle.vocabulary.proofs.laws.AskingLaws.{none-left, asked-no, asked-yes}
-use Rattle.vocabulary.specs.inner.Counted.{Counted}
 use Rattle.vocabulary.specs.inner.Stands.{Stands}
 use Rattle.vocabulary.specs.inner.Stored.{queryIn}
 use Rattle.vocabulary.specs.declared.query.StoredQuery.{StoredQuery}
 use Rattle.plan.specs.Plan.{groundOf, stepsOf}
-use Rattle.plan.specs.Questions.{orderQuestions, question9, question10}
+use Rattle.plan.specs.Questions.{orderQuestions, question9}
 use Rattle.plan.specs.Sets.{blankingSets}
 use Rattle.plan.specs.inner.StepWords.{listed}
 use Rattle.plan.specs.inner.Words.{setWords}
 use Rattle.plan.specs.declared.steps.Plan.{Plan}
 use Rattle.questions.proofs.laws.Kept.{room-of}
-use Rattle.questions.proofs.laws.Whole.{whole-nine, whole-query}
+use Rattle.questions.proofs.laws.Whole.{whole-nine}
 use Rattle.prepare.specs.inner.Prepared.{turnedAway, readyFor, readyBy, QueryPlanned}
 use Rattle.prepare.specs.declared.prepared.Prepared.{Prepared}
 
@@ -40,17 +39,9 @@ module _ (q : StoredQuery) {b : Bool} (e : b ≡ (leb (q .«pair_count») mostPa
     pub nine-yes : T (question9 (queryIn q))
     nine-yes = and-yes (leb (q .«pair_count») mostPairs) (question9 (queryIn q)) (rw (sym e ∙ f) tt) .1
 
-    module _ (n : Counted q) {c : Bool} (g : c ≡ question10 (queryIn q)) where
-      ten : {cells : List ℤ} {r : Report} → Stands q cells r → {y : Bool} → c ≡ y → question10 (queryOf r) ≡ y
-      ten k y = sym (ap question10 (whole-query k (n .joins) (n .conditions) pairs-room)) ∙ sym g ∙ y
-
-      pub ten-away : {x : Prepared} → c ≡ false → x ≡ turnedAway q 10 → QueryPlanned q x
-      unfolding readyBy orderQuestions
-      ten-away y z cells r k = z ∙ ap (readyBy q) (sym (asked-yes _ _ _ (nine k f) ∙ asked-no _ _ _ (ten k y)))
-
-      pub all-planned : {x : Prepared} → c ≡ true → x ≡ readyFor q → QueryPlanned q x
-      unfolding readyBy orderQuestions
-      all-planned y z cells r k = z ∙ ap (readyBy q) (sym (asked-yes _ _ _ (nine k f) ∙ asked-yes _ _ _ (ten k y) ∙ none-left (queryOf r)))
+    pub all-planned : {x : Prepared} → x ≡ readyFor q → QueryPlanned q x
+    unfolding readyBy orderQuestions
+    all-planned z cells r k = z ∙ ap (readyBy q) (sym (asked-yes _ _ _ (nine k f) ∙ none-left (queryOf r)))
 
 -- what is ready, part by part
 pub ready-parts : (q : StoredQuery) {sets : List ℕ} {s : Plan} → sets ≡ setWords (blankingSets (queryIn q))

@@ -1,7 +1,7 @@
 -- `prepare::prepared::plan_query` meets its contract: what the order is asked, the sets and the plan. Assumes nothing.
 use borrow.Author.Tests.{not-true, not-false}
 use borrow.Author.Needs.{needs}
-use Rattle.prepare.proofs.laws.PreparedLaws.{nine-away, ten-away, all-planned, pairs-room, nine-yes, ready-parts}
+use Rattle.prepare.proofs.laws.PreparedLaws.{nine-away, all-planned, pairs-room, nine-yes, ready-parts}
 use Rattle.prepare.proofs.prepared.plan_query.Statement.{statement}
 use Rattle.prepare.proofs.prepared.plan_query.Tie as tie
 
@@ -17,37 +17,19 @@ returns c = nine-away _ (c .before .before .order-built .ensures) (not-true _ (c
 blanking-sets-requires : tie.Need-blanking-sets-requires
 blanking-sets-requires c κs = search needs
 
-all-fit-requires : tie.Need-all-fit-requires
-all-fit-requires c κs =
-    let t = c .before in
-    (t .before .before .pre .0, c .blanking-sets .ensures, pairs-room _ (t .before .order-built .ensures) (not-false _ (t .if1 .left)))
-
-turned-away-requires-2 : tie.Need-turned-away-requires-2
-turned-away-requires-2 c κs = search needs
-
-returns-2 : tie.Need-returns-2
-returns-2 c =
-    let f = c .before .before in
-    let t = f .before .before in
-    ten-away _ (t .before .order-built .ensures) (not-false _ (t .if1 .left)) (t .before .before .pre .0)
-    (f .all-fit .ensures) (not-true _ (c .before .if2 .taken)) (c .turned-away2 .ensures)
-
 steps-of-requires : tie.Need-steps-of-requires
 steps-of-requires c κs =
-    let b = c .before .before in
-    let t = b .before in
+    let t = c .before in
     let p = t .before .before .pre in
     let e = t .before .order-built .ensures in
     let h = not-false _ (t .if1 .left) in
-    (p .0, b .blanking-sets .ensures, p .1, nine-yes _ e h, pairs-room _ e h)
+    (p .0, c .blanking-sets .ensures, p .1, nine-yes _ e h, pairs-room _ e h)
 
-returns-3 : tie.Need-returns-3
-returns-3 c =
-    let i = c .before in
-    let b = i .before .before in
+returns-2 : tie.Need-returns-2
+returns-2 c =
+    let b = c .before in
     let t = b .before in
-    all-planned _ (t .before .order-built .ensures) (not-false _ (t .if1 .left)) (t .before .before .pre .0)
-    (i .before .all-fit .ensures) (not-false _ (i .if2 .left)) (ready-parts _ (b .blanking-sets .ensures) (c .steps-of .ensures))
+    all-planned _ (t .before .order-built .ensures) (not-false _ (t .if1 .left)) (ready-parts _ (b .blanking-sets .ensures) (c .steps-of .ensures))
 
 pub plan-query-spec : {M : Type 1} → statement M
 plan-query-spec =
@@ -57,8 +39,5 @@ plan-query-spec =
     turned-away-requires
     returns
     blanking-sets-requires
-    all-fit-requires
-    turned-away-requires-2
-    returns-2
     steps-of-requires
-    returns-3)
+    returns-2)
