@@ -106,7 +106,7 @@ fn run_plan(text: &[u8], cells: &mut [i32], work: &mut [u16], result: &mut [u16]
     let tree = query.join_tree()?;
     let order = query.joining_order(&tree)?;
     let sets = query.blanking_sets(&tree);
-    let length = query.plan(&order, &sets, steps)?;
+    let length = query.plan(&order, &sets, steps);
 
     let mut executor = Executor::new(&query, &order, cells, work);
     let mut node = query.tables.len();

@@ -1,4 +1,4 @@
-//! The join tree, the blanking sets and the plan: questions 5 to 7, 9 and 10.
+//! The join tree, the blanking sets and the plan: questions 5 to 7 and 9.
 
 use crate::text::{Condition, Operand, Query};
 use crate::{BEST_MATCH, BLANKING, CONDITIONS, INNER, OUTER, PRODUCT, STEPS, Step, TABLES, bits};
@@ -107,8 +107,8 @@ impl Query {
         bits(blanked).for_each(|table| sets[table] |= gain);
     }
 
-    /// Writes the plan, its row counts still 0, and gives its length: question 10.
-    pub fn plan(&self, order: &Tree, sets: &[u64; TABLES], steps: &mut [Step]) -> Result<usize, u8> {
+    /// Writes the plan, its row counts still 0, and gives its length.
+    pub fn plan(&self, order: &Tree, sets: &[u64; TABLES], steps: &mut [Step]) -> usize {
         let mut plan = steps[..STEPS].iter_mut();
         let mut add = |step| plan.next().map(|place| *place = step).expect("a plan has at most STEPS steps");
         let mut applied = [0; TABLES];
@@ -129,10 +129,10 @@ impl Query {
                 (INNER, s, l)
             } else if in_l == conditions {
                 (OUTER, s, l)
-            } else if in_s == conditions {
-                (OUTER, l, s)
             } else {
-                return Err(10);
+                // Document 02, item 5: two usable conditions never pull a pair different ways.
+                assert_eq!(in_s, conditions, "usable conditions pull a pair different ways");
+                (OUTER, l, s)
             };
             if kind != PRODUCT {
                 self.extend_sets(&mut applied, kind == OUTER, conditions, order.sides((first, second)));
@@ -151,7 +151,7 @@ impl Query {
             add(Step { kind: BEST_MATCH, ..Step::default() });
             length += 1;
         }
-        Ok(length)
+        length
     }
 
     fn pair(&self, pair: usize) -> (u16, u16) {

@@ -9,13 +9,13 @@
 //! what is lent is compared too.
 //!
 //! Exit status 1: a difference, whose text is written to target/differ.in, or a refusal other than 8 and 10 or an outcome
-//! of conditions that did not occur, or a kind of key column that is rare. Number 8 is not used, and question 10 turns
-//! down no text.
+//! of conditions that did not occur, or a kind of key column, or of pairs whose conditions are of several joins, that is
+//! rare. Numbers 8 and 10 are not used.
 
 use hashjoin::generate::{OPERATORS, Random, each_fixed_text, each_random_text};
 use hashjoin::key_columns::key_columns;
 use hashjoin::lent::{LEAST, Lent};
-use hashjoin::{Answer, CONDITIONS, ROWS, Rows, STEPS, Step, Tally, write_direct, write_report};
+use hashjoin::{Answer, CONDITIONS, INNER, OUTER, ROWS, Rows, STEPS, Step, Tally, write_direct, write_report};
 use rumbethola::lent as library;
 use std::process::exit;
 use std::time::{Duration, Instant};
@@ -36,6 +36,8 @@ const FEWEST: u64 = 16;
 const ANSWERS_FOR_A_KIND: u64 = 50;
 const REFUSALS_FOR_A_KIND: u64 = 6;
 const ANSWERS_FOR_A_REFUSAL: u64 = 100;
+/// Numbers that no question has.
+const NOT_USED: [usize; 2] = [8, 10];
 
 /// The least lengths: cells, work, result, the answer of the report, that of the direct reading, the output.
 const LEASTS: [usize; 6] = [LEAST[0], LEAST[1], LEAST[2], library::ANSWER, library::DIRECT_ANSWER, library::OUT];
@@ -254,6 +256,53 @@ impl KeyColumns {
     }
 }
 
+/// In answers of the report to texts made by chance: pairs whose usable conditions are of several J lines, joined by an
+/// inner join, and by an outer join.
+#[derive(Default)]
+struct Pairs {
+    inner: u64,
+    outer: u64,
+}
+
+/// For each condition of a valid text, which J line it stands behind.
+fn joins_of_conditions(text: &[u8]) -> Vec<usize> {
+    let mut joins = 0;
+    let mut of_conditions = vec![];
+    for line in text.split(|&byte| byte == b'\n') {
+        match line.first() {
+            Some(b'J') => joins += 1,
+            Some(b'C' | b'K') => of_conditions.push(joins),
+            _ => (),
+        }
+    }
+    of_conditions
+}
+
+impl Pairs {
+    fn count(&mut self, text: &[u8], steps: &[Step]) {
+        let joins = joins_of_conditions(text);
+        for step in steps {
+            let mut of_step =
+                joins.iter().enumerate().filter(|&(c, _)| step.conditions >> c & 1 == 1).map(|(_, join)| join);
+            let first = of_step.next();
+            let several = of_step.any(|join| Some(join) != first);
+            match step.kind {
+                INNER => self.inner += u64::from(several),
+                OUTER => self.outer += u64::from(several),
+                _ => (),
+            }
+        }
+    }
+
+    fn print(&self) {
+        println!("pairs made by chance with conditions of several joins: inner {}, outer {}", self.inner, self.outer);
+    }
+
+    fn lacks(&self) -> bool {
+        self.inner < FEWEST || self.outer < FEWEST
+    }
+}
+
 fn three(tally: &Tally) -> [u64; 3] {
     [tally.holds, tally.fails, tally.unknown].map(u64::from)
 }
@@ -269,13 +318,15 @@ struct Differ {
     direct: Counts,
     outcomes: Outcomes,
     key_columns: KeyColumns,
+    pairs: Pairs,
 }
 
 impl Differ {
     fn new(seed: u64) -> Differ {
         let [start, expected, found] = [(); 3].map(|()| Memory::new());
-        let (report, direct, outcomes, key_columns) = Default::default();
-        Differ { start, expected, found, random: Random::new(!seed), calls: 0, report, direct, outcomes, key_columns }
+        let (report, direct, outcomes, key_columns, pairs) = Default::default();
+        let random = Random::new(!seed);
+        Differ { start, expected, found, random, calls: 0, report, direct, outcomes, key_columns, pairs }
     }
 
     /// The lengths of a call by chance: now and then one is too short.
@@ -314,6 +365,7 @@ impl Differ {
             (Ok(rows), 0) => {
                 self.outcomes.count(text, rows);
                 self.key_columns.count(text, true);
+                self.pairs.count(text, &expected.lent.steps);
             }
             (Err(12), 12) => self.key_columns.count(text, false),
             _ => (),
@@ -470,6 +522,7 @@ fn main() {
     // The fixed texts have every operator and every kind of key column, whatever those made by chance have.
     differ.outcomes.operators = Default::default();
     differ.key_columns = KeyColumns { full: differ.key_columns.full, ..Default::default() };
+    differ.pairs = Pairs::default();
     let mut seed = options.seed;
     while chance < options.count && options.time.is_none_or(|time| began.elapsed() < time) {
         let batch = BATCH.min(options.count - chance);
@@ -486,8 +539,9 @@ fn main() {
     differ.direct.print("direct");
     differ.outcomes.print();
     differ.key_columns.print();
+    differ.pairs.print();
     println!("no difference, {:.1} s", began.elapsed().as_secs_f64());
-    if differ.report.lacks(&[8, 10]) || differ.direct.lacks(&[8, 9, 10]) {
+    if differ.report.lacks(&NOT_USED) || differ.direct.lacks(&[&NOT_USED[..], &[9]].concat()) {
         println!("a refusal did not occur");
         exit(1)
     }
@@ -497,6 +551,10 @@ fn main() {
     }
     if differ.key_columns.lacks() {
         println!("a kind of key column is rare");
+        exit(1)
+    }
+    if differ.pairs.lacks() {
+        println!("pairs with conditions of several joins are rare");
         exit(1)
     }
 }
