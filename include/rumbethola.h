@@ -60,7 +60,7 @@ extern "C" {
       No buffer is changed.
    B. `cells`, `work` or `result` is shorter than its least count: refusal 1.
       `cells`, `work` and `result` are as before. `answer` or `out` is written, as below.
-   C. A question from 2 to 12 turns the text down: the refusal has its number. Number 8 is not used.
+   C. A question from 2 to 12 turns the text down: the refusal has its number. Numbers 8 and 10 are not used.
       `cells` and `work` are filled with 0, to their ends. `result` is as before. `answer` or `out` is written.
    D. There is an answer, of r rows and t tables.
       `cells` and `work` are filled with 0, to their ends. The first r x t numbers of `result` are the rows, one after
@@ -77,8 +77,8 @@ extern "C" {
      print of a direct reading without rows has 0 bytes.
    - The rest of `answer` and of `out` is as before.
 
-   The text is never changed. rumbethola_report and rumbethola_print_report put all questions, and no text gets 10.
-   rumbethola_direct and rumbethola_print_direct do not put 9 and 10. */
+   The text is never changed. rumbethola_report and rumbethola_print_report put all questions. rumbethola_direct and
+   rumbethola_print_direct do not put 9. */
 
 /* A table that is blank in a row of the result. */
 #define RUMBETHOLA_BLANK 65535

@@ -86,7 +86,7 @@ pub struct Tally {
 }
 
 /// The number of the question that turned a text down, 2 to 12. It is never 1, since an [`Engine`]
-/// lends all that question 1 asks for; 8 is not used, and no text gets 10.
+/// lends all that question 1 asks for; 8 and 10 are not used.
 #[derive(Clone, Copy, Debug, PartialEq, Eq)]
 pub struct Refused {
     pub question: u8,

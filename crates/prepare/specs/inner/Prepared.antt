@@ -1,4 +1,4 @@
--- What is made ready of a query before its plan is run: questions 9 and 10, its sets and its plan. For the functions of src/prepared.rt.
+-- What is made ready of a query before its plan is run: question 9, its sets and its plan. For the functions of src/prepared.rt.
 -- Assumes nothing.
 use mathlib.Core.Path.{_≡_}
 use mathlib.Core.List.{[], List}

@@ -52,7 +52,7 @@ struct Node {
 }
 
 impl Report {
-    /// A report that questions 2 to 10 and 12 let pass.
+    /// A report that questions 2 to 7, 9 and 12 let pass.
     pub fn random(random: &mut Random) -> Report {
         if random.one_in(200) {
             return Report::of_many_pairs(random);
