@@ -27,40 +27,37 @@ use Rattle.plan.proofs.laws.QueryLaws.{Accepted, names-only, named-clos
 -- ---- closed sets
 
 module _ (q : Query) (S : Sets) {D : Database ℕ} (laws : Lawful D) (names : (k t : ℕ) → (laws .Names k t ↔ t isIn namesOf (conditionAt q k)))
-    (closed : Closed laws (setOf S)) (s l : List ℕ) where
-  -- A usable condition in the sets of s names a table of l. So each table of s has what that table's set has, and with it what every table
-  -- of l has
-  drawn-left : (c d : ℕ) → c isIn usable q S s l → T (inEvery S s c) → T (inEvery S l d) → T (inEvery S s d)
-  drawn-left c d m x y =
-      let (_, (v, nv, lv)) = crosses-across s l (conditionAt q c) (usable-elim q S s l c m .1) in
-      every-intro S s d (λ t h. closed t v c (every-elim S s c x t h) (names c v .1 nv) d (every-elim S l d y v lv))
+    (closed : Closed laws (setOf S)) where
+  -- A condition in the sets of s names a table of l. So each table of s has what that table's set has, and with it what every table of l has
+  drawn : (s l : List ℕ) (c d v : ℕ) → v isIn namesOf (conditionAt q c) → v isIn l → T (inEvery S s c) → T (inEvery S l d) → T (inEvery S s d)
+  drawn s l c d v nv lv x y = every-intro S s d (λ t h. closed t v c (every-elim S s c x t h) (names c v .1 nv) d (every-elim S l d y v lv))
 
-  drawn-right : (c d : ℕ) → c isIn usable q S s l → T (inEvery S l c) → T (inEvery S s d) → T (inEvery S l d)
-  drawn-right c d m x y =
-      let ((v, nv, sv), _) = crosses-across s l (conditionAt q c) (usable-elim q S s l c m .1) in
-      every-intro S l d (λ t h. closed t v c (every-elim S l c x t h) (names c v .1 nv) d (every-elim S s d y v sv))
+  module _ (s l : List ℕ) where
+    one-of : (c : ℕ) → c isIn usable q S s l → T (inEvery S s c) ⊎ T (inEvery S l c)
+    one-of c m = or-yes (inEvery S s c) (inEvery S l c) (usable-elim q S s l c m .2)
 
-  one-of : (c : ℕ) → c isIn usable q S s l → T (inEvery S s c) ⊎ T (inEvery S l c)
-  one-of c m = or-yes (inEvery S s c) (inEvery S l c) (usable-elim q S s l c m .2)
+    -- where a usable condition is in the sets of a side, all usable ones are
+    pub with-left : (c d : ℕ) → c isIn usable q S s l → d isIn usable q S s l → T (inEvery S s c) → T (inEvery S s d)
+    with-left c d m n x =
+        let (_, (v, nv, lv)) = crosses-across s l (conditionAt q c) (usable-elim q S s l c m .1) in
+        ⊎-elim (λ y. y) (λ y. drawn s l c d v nv lv x y) (one-of d n)
 
-  -- a usable condition that is in the sets of a side has all usable ones in them
-  pub with-left : (c d : ℕ) → c isIn usable q S s l → d isIn usable q S s l → T (inEvery S s c) → T (inEvery S s d)
-  with-left c d m n x = ⊎-elim (λ y. y) (λ y. drawn-left c d m x y) (one-of d n)
+    pub with-right : (c d : ℕ) → c isIn usable q S s l → d isIn usable q S s l → T (inEvery S l c) → T (inEvery S l d)
+    with-right c d m n x =
+        let ((v, nv, sv), _) = crosses-across s l (conditionAt q c) (usable-elim q S s l c m .1) in
+        ⊎-elim (λ y. drawn l s c d v nv sv x y) (λ y. y) (one-of d n)
 
-  pub with-right : (c d : ℕ) → c isIn usable q S s l → d isIn usable q S s l → T (inEvery S l c) → T (inEvery S l d)
-  with-right c d m n x = ⊎-elim (λ y. drawn-right c d m x y) (λ y. y) (one-of d n)
-
-  -- so all of them are in the sets of s, or all in the sets of l
-  pub all-one-way : T (all (inEvery S s) (usable q S s l)) ⊎ T (all (inEvery S l) (usable q S s l))
-  unfolding all
-  all-one-way = first (usable q S s l) (λ c m. m)
-    where
-      first : (C : List ℕ) → ((c : ℕ) → c isIn C → c isIn usable q S s l) → T (all (inEvery S s) C) ⊎ T (all (inEvery S l) C)
-      first [] h = inl tt
-      first (k ∷ C) h = ⊎-map
-          (λ x. all-intro (inEvery S s) (k ∷ C) (λ c m. with-left k c (h k (here refl)) (h c m) x))
-          (λ x. all-intro (inEvery S l) (k ∷ C) (λ c m. with-right k c (h k (here refl)) (h c m) x))
-          (one-of k (h k (here refl)))
+    -- so all of them are in the sets of s, or all in the sets of l
+    pub all-one-way : T (all (inEvery S s) (usable q S s l)) ⊎ T (all (inEvery S l) (usable q S s l))
+    unfolding all
+    all-one-way = first (usable q S s l) (λ c m. m)
+      where
+        first : (C : List ℕ) → ((c : ℕ) → c isIn C → c isIn usable q S s l) → T (all (inEvery S s) C) ⊎ T (all (inEvery S l) C)
+        first [] h = inl tt
+        first (k ∷ C) h = ⊎-map
+            (λ x. all-intro (inEvery S s) (k ∷ C) (λ c m. with-left k c (h k (here refl)) (h c m) x))
+            (λ x. all-intro (inEvery S l) (k ∷ C) (λ c m. with-right k c (h k (here refl)) (h c m) x))
+            (one-of k (h k (here refl)))
 
 -- ---- the pairs of an order
 
