@@ -1,6 +1,7 @@
 -- Demand 3 is not empty: document 01's report with its order changed and a list of steps that is not the engine's own, computed; and a
 -- report that document 01's question 8 turned down, which document 02, item 2, answers; one that it passed and that loses a blanking step; and
--- one whose conditions would pull a pair different ways by document 01's sets (document 02, item 5). Assumes nothing.
+-- one whose conditions would pull a pair different ways by document 01's sets, and one that question 6 turns down whose conditions do
+-- (document 02, item 5). Assumes nothing.
 use mathlib.Core.Path.{_≡_, refl}
 use mathlib.Core.Bool.{true, false}
 use mathlib.Core.List.{List, [], _∷_}
@@ -15,7 +16,8 @@ use Rattle.text.specs.Lines.{Line}
 use Rattle.text.specs.Reading.{textLines, reportOf}
 use Rattle.text.specs.QueryLines.{isOrder, queryLines}
 use Rattle.plan.specs.Questions.{orderQuestions}
-use Rattle.plan.specs.Plan.{groundOf, usableAt, planned, blankings}
+use Rattle.plan.specs.Sets.{blankingSets}
+use Rattle.plan.specs.Plan.{groundOf, usable, usableAt, planned, blankings}
 use Rattle.plan.specs.Former.{formerSets, formerGround, formerBlankings, question10}
 use Rattle.plan.specs.FourKinds.{inOneAlone, pullApart}
 use Rattle.plan.specs.BlankingLists.{BlankingList}
@@ -159,3 +161,22 @@ crossed-formerly = refl
 crossed-refused : formerOutcome crossed ≡ refused 8
 unfolding computing formerly crossed text notation
 crossed-refused = refl
+
+-- ---- why questions 5 to 7 come before
+
+-- 5 L 4 over 0 L 1 and 3 L 2, where each lower join has a condition between tables 1 and 3, one of which is not under it
+unfoldable pub outside : Bytes
+outside = text "T|1 T|1 T|1 T|1 J|L|3|2 C|3|0|=|2|0 C|3|0|=|1|0 J|L|0|1 C|0|0|=|1|0 C|1|0|=|3|0 J|L|5|4 C|0|0|=|2|0"
+
+-- question 6 turns it down; by its sets conditions 3 and 1 are usable for tables 1 and 3, and pull them different ways
+outside-six : firstNo sharedQuestions (reportOf (linesIn outside)) ≡ some 6
+unfolding computing outside linesIn text notation
+outside-six = refl
+
+outside-usable : usable (queryOf (reportOf (linesIn outside))) (blankingSets (queryOf (reportOf (linesIn outside)))) (1 ∷ []) (3 ∷ []) ≡ 1 ∷ 3 ∷ []
+unfolding computing outside linesIn text notation
+outside-usable = refl
+
+outside-apart : pullApart (blankingSets (queryOf (reportOf (linesIn outside)))) (1 ∷ []) (3 ∷ []) 3 1 ≡ true
+unfolding computing outside linesIn text notation pullApart inOneAlone
+outside-apart = refl
