@@ -5,7 +5,7 @@ use mathlib.Core.Bool.{Bool, true, false, not, _||_, or-comm, _&&_, and-false, a
 use mathlib.Core.List.{List, [], _∷_}
 use Prim.Native.Nat.{ℕ, _<_, _-_, _≤_, _^_}
 use native.Mathlib.Omega.{arith}
-use lib.Dec.{ltb, leb, eqb, lit<, T}
+use lib.Dec.{ltb, leb, eqb, eqb-refl, lit<, T}
 use lib.IntN.{ℤ, pos, negsuc}
 use lib.ListN.{getD, List·getD-map, List·getD-eq-default}
 use lib.Signed.{ltZ, leZ}
@@ -182,6 +182,11 @@ holds-blank-right op x y p = holds-by op x y (isBlank x) true refl p ∙ none (n
     none false = refl
 
 -- ---- `=` as one test
+
+pub eqZ-refl : (x : ℤ) → T (eqZ x x)
+unfolding eqZ
+eqZ-refl (pos a) = eqb-refl a
+eqZ-refl (negsuc a) = eqb-refl a
 
 pub eqZ-true : (x y : ℤ) → eqZ x y ≡ true → x ≡ y
 unfolding eqZ

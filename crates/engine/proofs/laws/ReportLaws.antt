@@ -16,7 +16,7 @@ use Rattle.cells.specs.Condition.{Cells, cellsIn}
 use Rattle.cells.specs.Row.{Row}
 use Rattle.cells.proofs.laws.TableLaws.{getD-within}
 use Rattle.rows.specs.Lists.{range, all}
-use Rattle.rows.proofs.laws.ListLaws.{all-intro, all-elim, getD-isIn, length-range}
+use Rattle.rows.proofs.laws.ListLaws.{all-intro, all-elim, getD-isIn, isIn-at, length-range}
 use Rattle.rows.specs.Nullification.{finished}
 use Rattle.rows.specs.Trees.{Database, Tree, leaf, rowsOf}
 use Rattle.vocabulary.specs.Asking.{Question, about, firstNo}
@@ -52,7 +52,6 @@ use Rattle.joins.specs.inner.Work.{workspace}
 use Rattle.joins.specs.declared.join.Joined.{Joined}
 use Rattle.joins.specs.declared.join.Joined.the-variants as J
 use Rattle.row_lists.specs.inner.Flat.{flatRows}
-use Rattle.executor.proofs.laws.LimitLaws.{isIn-at}
 use Rattle.executor.proofs.laws.PlanRuns.{PlanRan, ran, over}
 use Rattle.executor.specs.Runs.{question11, results, withinLimit, reportRows, pairCounts, reportSteps}
 use Rattle.engine.specs.Answers.{Outcome, ReportAnswer, refused, reportQuestions, outcomeBy, reportAnswer, reportOutcome, answered}

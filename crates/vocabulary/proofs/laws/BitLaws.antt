@@ -1,14 +1,14 @@
--- Laws of bits, over every width: the bits of a union, of an intersection, of one number and of a list's word; words with the
+-- Laws of bits, over every width: the bits of a union, of an intersection, of a difference, of one number and of a list's word; words with the
 -- same bits are equal. Assumes nothing.
 use mathlib.Core.Path.{_≡_, refl, sym, ap, _∙_, subst}
 use mathlib.Core.Logic.{_↔_, _≢_, ⊎-elim}
-use mathlib.Core.Bool.{_||_, _&&_, false}
+use mathlib.Core.Bool.{Bool, true, false, not, _||_, _&&_}
 use mathlib.Core.List.{List, [], _∷_, _++_}
 use Prim.Native.Nat.{ℕ, _%_, max, min, zero, suc, _<_, _/_, _^_, _*_, _+_, _≤_}
 use native.Mathlib.Nat.{pow-succ', div-div-eq-div-mul, div-one, pow-suc, pow-le-pow-right, div-eq-of-lt}
 use native.Mathlib.Omega.{arith}
 use lib.Dec.{eqb, eqb·zero-suc, eqb·suc-zero, eqb·suc-suc, T}
-use lib.Bits.{bitOr, or-step, bitAnd, and-step, or-shr, and-shr}
+use lib.Bits.{bitOr, or-step, bitAnd, and-step, bitXor, xor-step, differ, or-shr, and-shr, xor-shr}
 use mir.Facts.{or-yes}
 use Rattle.cells.proofs.laws.BoolLaws.{same-test}
 use Rattle.rows.specs.Lists.{any, has, _isIn_}
@@ -49,6 +49,43 @@ has-or s t k = rw (or-shr s t k, or-low (s / 2 ^ k) (t / 2 ^ k)) (odd-max (s / 2
 pub has-and : (s t k : ℕ) → hasBit (bitAnd s t) k ≡ (hasBit s k && hasBit t k)
 unfolding hasBit
 has-and s t k = rw (and-shr s t k, and-low (s / 2 ^ k) (t / 2 ^ k)) (odd-min (s / 2 ^ k % 2) (t / 2 ^ k % 2) (omega arith) (omega arith))
+
+-- ---- difference
+
+-- a number is in the one set and not in the other
+abbrev differs : Bool → Bool → Bool
+differs true b = not b
+differs false b = b
+
+odd-differ : (x y : ℕ) → x < 2 → y < 2 → eqb (differ x y) 1 ≡ differs (eqb x 1) (eqb y 1)
+odd-differ zero zero h k = refl
+odd-differ zero (suc zero) h k = refl
+odd-differ (suc zero) zero h k = refl
+odd-differ (suc zero) (suc zero) h k = refl
+odd-differ zero (suc (suc y)) h k = absurd (omega arith)
+odd-differ (suc zero) (suc (suc y)) h k = absurd (omega arith)
+odd-differ (suc (suc x)) y h k = absurd (omega arith)
+
+differ-low : (x y : ℕ) → x < 2 → y < 2 → differ x y < 2
+differ-low zero y h k = k
+differ-low (suc zero) zero h k = h
+differ-low (suc zero) (suc y) h k = omega arith
+differ-low (suc (suc x)) y h k = absurd (omega arith)
+
+xor-low : (a b : ℕ) → bitXor a b % 2 ≡ differ (a % 2) (b % 2)
+xor-low a b = rw (xor-step a b) (let h : differ (a % 2) (b % 2) < 2 = differ-low (a % 2) (b % 2) (omega arith) (omega arith) in omega arith)
+
+has-xor : (s t k : ℕ) → hasBit (bitXor s t) k ≡ differs (hasBit s k) (hasBit t k)
+unfolding hasBit
+has-xor s t k = rw (xor-shr s t k, xor-low (s / 2 ^ k) (t / 2 ^ k)) (odd-differ (s / 2 ^ k % 2) (t / 2 ^ k % 2) (omega arith) (omega arith))
+
+-- the numbers of the one set that are not in the other
+pub has-without : (s t k : ℕ) → hasBit (bitXor s (bitAnd s t)) k ≡ (hasBit s k && not (hasBit t k))
+has-without s t k = has-xor s (bitAnd s t) k ∙ ap (differs (hasBit s k)) (has-and s t k) ∙ without (hasBit s k) (hasBit t k)
+  where
+    without : (a b : Bool) → differs a (a && b) ≡ (a && not b)
+    without true b = refl
+    without false b = refl
 
 -- ---- one number
 

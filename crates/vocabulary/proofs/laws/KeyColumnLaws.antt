@@ -7,25 +7,20 @@ use mathlib.Core.Option.{Option, none, some}
 use Prim.Native.Nat.{ℕ, zero, suc, _<_, _≤_}
 use native.Mathlib.Decide.{decLt}
 use native.Mathlib.Omega.{arith}
-use lib.Dec.{T, T-not, eqb-refl, ltb}
+use lib.Dec.{T, T-not, ltb}
 use lib.IntN.{ℤ, pos, negsuc}
 use lib.ListN.{length, getD, length-map, List·getD-map, List·getD-eq-default}
 use mir.Facts.{and-yes, yes-and, ltb-yes, yes-ltb}
 use Rattle.cells.specs.Cell.{blankCell, isBlank, eqZ}
 use Rattle.cells.proofs.laws.BoolLaws.{clash, is-true}
-use Rattle.cells.proofs.laws.OperatorLaws.{eqZ-true}
+use Rattle.cells.proofs.laws.OperatorLaws.{eqZ-true, eqZ-refl}
 use Rattle.rows.specs.Lists.{all, any, _isIn_}
-use Rattle.rows.proofs.laws.ListLaws.{here, there, all-elim, any-elim, any-intro, getD-isIn}
+use Rattle.rows.proofs.laws.ListLaws.{here, there, all-elim, any-elim, any-intro, getD-isIn, isIn-at}
 use Rattle.vocabulary.specs.Report.{Table, Report}
 use Rattle.vocabulary.specs.Database.{tableAt, rowCountIn, cellsOf}
 use Rattle.vocabulary.specs.KeyColumns.{cellsOfColumn, allDiffer, areKey, keyHolds, question12, TellsApart, KeysTellApart}
 
 -- ---- numbers
-
-eqZ-refl : (z : ℤ) → T (eqZ z z)
-unfolding eqZ
-eqZ-refl (pos a) = eqb-refl a
-eqZ-refl (negsuc a) = eqb-refl a
 
 eqZ-yes : (x y : ℤ) → T (eqZ x y) → x ≡ y
 eqZ-yes x y h = eqZ-true x y (is-true _ h)
@@ -37,11 +32,6 @@ module _ {A : Type 0} (p : A → Bool) (d : A) where
   unfolding all
   all-places [] h = tt
   all-places (x ∷ l) h = yes-and (p x) (all p l) (h 0 (omega arith)) (all-places l (λ i k. h (suc i) (omega arith)))
-
-  -- an element has a place
-  place-of : (l : List A) {a : A} → a isIn l → (i : ℕ) × (i < length l) × (getD l i d ≡ a)
-  place-of (x ∷ l) (here e) = (0, omega arith, sym e)
-  place-of (x ∷ l) (there m) = let (i, h, e) = place-of l m in (suc i, omega arith, e)
 
 -- ---- cells that all differ
 
@@ -69,7 +59,7 @@ module _ (d : ℤ) where
       none false e = tt
       none true e =
           let (y, m, q) = any-elim (eqZ z) zs (subst T (sym e) tt) in
-          let (j, k, f) = place-of (eqZ z) d zs m in
+          let (j, k, f) = isIn-at d m in
           h 0 (suc j) (omega arith) (omega arith) (eqZ-yes z y q ∙ sym f)
 
 -- ---- a column
