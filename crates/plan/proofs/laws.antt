@@ -1,9 +1,11 @@
 -- Laws of the definitions, and what only proofs use.
 pub mod BlankingListLaws
 pub mod BuiltLaws
+pub mod ClosedSetLaws
 pub mod FoldWords
 pub mod FormerLaws
 pub mod FourKindsLaws
+pub mod FullLaws
 pub mod JoinLaws
 pub mod NodeWords
 pub mod PairWordLaws

@@ -1,7 +1,8 @@
 -- Document 02, item 5: with the blanking sets of its item 2 "two usable conditions can never pull a pair different ways, whatever the tree
 -- and order"; any one of them tells how the pair is joined, and it is joined by one of document 01's four kinds. This file says what is
--- stated of a query; proofs/laws/FourKindsLaws.antt proves it of every query that questions 5 to 7 do not turn down, whatever its P lines.
--- Nothing here speaks of cells. Specification 7.12. Assumes nothing.
+-- stated of a query and its sets, which item 6 closes; proofs/laws/FourKindsLaws.antt proves it of every query that questions 5 to 7 do not
+-- turn down, whatever its P lines, with its blanking sets and with the closed ones. Nothing here speaks of cells. Specification 7.12. Assumes
+-- nothing.
 use mathlib.Core.Path.{_≡_}
 use mathlib.Core.Logic.{_≢_}
 use mathlib.Core.Bool.{Bool, _&&_, not}
@@ -11,8 +12,8 @@ use lib.Dec.{T}
 use Rattle.rows.specs.Lists.{_isIn_}
 use Rattle.rows.specs.declared.kind.Kind.the-variants.{Inner, Outer, Product}
 use Rattle.vocabulary.specs.Report.{Query, Join, Pair}
-use Rattle.plan.specs.Sets.{Sets, blankingSets}
-use Rattle.plan.specs.Plan.{Ground, inEvery, usable, usableAt, allIn, planned, groundOf}
+use Rattle.plan.specs.Sets.{Sets}
+use Rattle.plan.specs.Plan.{Ground, inEvery, usable, usableAt, allIn, planned}
 
 -- whether a condition is in the set of every table of s, and not of every table of l: alone it would have l preserved. Specification 7.12
 unfoldable pub inOneAlone : Sets → List ℕ → List ℕ → ℕ → Bool
@@ -23,15 +24,14 @@ unfoldable pub pullApart : Sets → List ℕ → List ℕ → ℕ → ℕ → Bo
 pullApart S s l c d = inOneAlone S s l c && inOneAlone S l s d
 
 -- no two usable conditions of a pair pull it different ways, whatever tables stand under its two nodes. Specification 7.12
-abbrev pub OneWay : Query → Type 0
-OneWay q = (s l : List ℕ) (c d : ℕ) → c isIn usable q (blankingSets q) s l → d isIn usable q (blankingSets q) s l
-    → ¬ T (pullApart (blankingSets q) s l c d)
+abbrev pub OneWay : Query → Sets → Type 0
+OneWay q S = (s l : List ℕ) (c d : ℕ) → c isIn usable q S s l → d isIn usable q S s l → ¬ T (pullApart S s l c d)
 
 -- more than that, they pull it the same way: both are in the sets of all tables of s or neither is, and so of l. Any one of them tells how
 -- the pair is joined. Specification 7.12
-abbrev pub SameWay : Query → Type 0
-SameWay q = (s l : List ℕ) (c d : ℕ) → c isIn usable q (blankingSets q) s l → d isIn usable q (blankingSets q) s l
-    → (inEvery (blankingSets q) s c ≡ inEvery (blankingSets q) s d) × (inEvery (blankingSets q) l c ≡ inEvery (blankingSets q) l d)
+abbrev pub SameWay : Query → Sets → Type 0
+SameWay q S = (s l : List ℕ) (c d : ℕ) → c isIn usable q S s l → d isIn usable q S s l
+    → (inEvery S s c ≡ inEvery S s d) × (inEvery S l c ≡ inEvery S l d)
 
 -- how a pair is joined, with what makes it so: "None: outer product .. All in both: inner. All in l's: outer, s preserved. All in s's: outer, l
 -- preserved." Specification 7.3, 7.12
@@ -44,6 +44,10 @@ pub data OneOfFour (g : Ground) (p : Pair) : Join → Type 0 where
   allInFirst : usableAt g p ≢ [] → T (allIn g p (p .0)) → ¬ T (allIn g p (p .1))
       → OneOfFour g p (record { kind = Outer; left = p .1; right = p .0; conditions = usableAt g p })
 
--- each pair of nodes of a query's order is joined by one of the four kinds. Specification 7.12
-abbrev pub FourKinds : Query → Type 0
-FourKinds q = (p : Pair) → OneOfFour (groundOf q) p (planned (groundOf q) p)
+-- each pair of nodes of an order is joined by one of the four kinds. Specification 7.12
+abbrev pub FourKinds : Ground → Type 0
+FourKinds g = (p : Pair) → OneOfFour g p (planned g p)
+
+-- all three of what a plan is made of. Specification 7.12
+abbrev pub PulledOneWay : Ground → Type 0
+PulledOneWay g = OneWay (g .query) (g .sets) × SameWay (g .query) (g .sets) × FourKinds g

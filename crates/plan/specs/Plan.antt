@@ -1,4 +1,4 @@
--- The plan: document 01, "The plan". Specification 7.2, 7.3, 7.6, 7.7, 7.9. Assumes nothing.
+-- The plan: document 01, "The plan", with document 02, item 6. Specification 7.2, 7.3, 7.6, 7.7, 7.9. Assumes nothing.
 use mathlib.Core.Bool.{Bool, false, _&&_, _||_, true, not}
 use mathlib.Core.List.{List, [], _∷_, map, _++_, zipWith}
 use Prim.Native.Nat.{ℕ}
@@ -13,6 +13,7 @@ use Rattle.vocabulary.specs.declared.step.Step.{Step}
 use Rattle.vocabulary.specs.Report.{Query, conditionNumbers, conditionAt, Join, Pair, joinOrder, tableNumbers}
 use Rattle.vocabulary.specs.Nodes.{tablesAt, nodesOf, treesOf, lastTree}
 use Rattle.vocabulary.specs.Steps.{pairStep, blankingStep, bestMatchStep}
+use Rattle.links.specs.Links.{closeSet, closeSets}
 use Rattle.plan.specs.Sets.{Sets, setOf, blankingSets, setsBy, emptySets}
 
 -- ---- pairs
@@ -54,9 +55,19 @@ pub record Ground : Type 0 where
   pub close : List ℕ → List ℕ
   pub order : List Pair
 
--- what a query's plan is made of: its blanking sets and its joining order; after the last pair a set stays as it is. Specification 7.1
+-- each table's blanking set with what follows from it. Specification 6.10
+unfoldable pub closedSets : Query → Sets
+closedSets q = closeSets q (blankingSets q)
+
+-- what a query's plan is made of: its sets with what follows from them, and its joining order; "Applied sets are closed alike after the last
+-- pair" (document 02, item 6). A report's query has its derived conditions here: `fullQuery`. Specification 7.1
 abbrev pub groundOf : Query → Ground
-groundOf q = record { query = q; sets = blankingSets q; close = λ C. C; order = joinOrder q }
+groundOf q = record { query = q; sets = closedSets q; close = closeSet q; order = joinOrder q }
+
+-- the same without derivation, for what is said of it: "no condition is derived by transitivity" (document 01), and a set stays as it is.
+-- No routine uses it. Specification 6.12
+abbrev pub plainGround : Query → Ground
+plainGround q = record { query = q; sets = blankingSets q; close = λ C. C; order = joinOrder q }
 
 -- whether a blanking step has a condition. Specification 7.9
 unfoldable pub asks : Blanking ℕ → Bool
@@ -91,7 +102,7 @@ module _ (g : Ground) where
   unfoldable pub planTree : Tree ℕ
   planTree = lastTree planTrees
 
-  -- "The same set rule over the pairs gives the applied sets (a product adds nothing)". Specification 7.6
+  -- "The same set rule over the pairs gives the applied sets (a product adds nothing)", before they are closed. Specification 7.6
   unfoldable pub pairSets : Sets
   pairSets = setsBy (g .query) orderNodes plannedJoins (emptySets (g .query))
 

@@ -21,14 +21,14 @@ use Rattle.rows.specs.Nullification.{planRows}
 use Rattle.rows.specs.Trees.{Database, Tree, leaf, join, tablesUnder, rowsOf}
 use Rattle.rows.specs.declared.kind.Kind.the-variants.{Inner, Outer, Product}
 use Rattle.rows.proofs.laws.ShapesLaws.{BlanksLeft, BlanksRight, Lawful, HasTable, table-listed}
-use Rattle.rows.proofs.laws.Sets.{Applied}
+use Rattle.rows.proofs.laws.Sets.{Applied, Closed}
 use Rattle.rows.proofs.laws.Preserved.{RightOfOuter, NoProduct, preserved-everywhere}
 use Rattle.vocabulary.specs.Report.{Query, Join, tableCount, tableNumbers, conditionNumbers, conditionAt, namedBy, joinPairs, joinOrder}
 use Rattle.vocabulary.specs.Nodes.{tablesAt, treeAt, treeOf, joinNodes, joinTrees, joinTree, nodesOf, treesOf}
 use Rattle.vocabulary.proofs.laws.NodeLaws.{Matched}
 use Rattle.vocabulary.proofs.laws.WellRead.{Numbered}
 use Rattle.plan.specs.Sets.{Sets, setOf, blanksLeft, blanksRight, taken, isBlanked, setAfter, setsAfter, setsBy, emptySets, blankingSets}
-use Rattle.plan.specs.Plan.{Ground, groundOf, orderNodes, usableAt, plannedJoins, planTree, pairSets, appliedSets, missing}
+use Rattle.plan.specs.Plan.{Ground, groundOf, plainGround, orderNodes, usableAt, plannedJoins, planTree, pairSets, appliedSets, missing}
 use Rattle.plan.specs.Questions.{question9}
 use Rattle.plan.specs.Former.{formerTaken, formerAfter, formerBy, formerSets, rightSides, namesRightSide, question8, formerGround, formerApplied, formerMissing, formerBlankings, fitsKind, question10}
 use Rattle.plan.proofs.laws.StageLaws.{Stages, allMade, makes, OpenApart, apart-next, stages-count}
@@ -38,8 +38,8 @@ use Rattle.plan.proofs.laws.BuiltLaws.{each-node, nodes-alike, tables-e
 use Rattle.plan.proofs.laws.TiedLaws.{nodes-shaped}
 use Rattle.plan.proofs.laws.QueryLaws.{Accepted, names-only, joins-matched, JoinFits, join-fits, query-built}
 use Rattle.plan.proofs.laws.PlanLaws.{close-none}
-use Rattle.plan.proofs.laws.FourKindsLaws.{all-in-one}
-use Rattle.plan.proofs.laws.Reordering.{same-rows-by}
+use Rattle.plan.proofs.laws.FourKindsLaws.{all-in-one, plain-closed, full-closed}
+use Rattle.plan.proofs.laws.Reordering.{plain-sound, same-rows-by}
 use Rattle.plan.proofs.laws.BlankingListLaws.{steps-elim, steps-intro}
 
 -- ---- one join
@@ -214,7 +214,7 @@ module _ (q : Query) (ok : Accepted q) (eight : T (question8 q)) where
       (exact-first q passed (query-built q ok) (names-only q) (λ k t. (λ n. n, λ n. n)))
 
   -- what the plan is made of is the same: the pairs are joined as before, and M lines stay
-  pub ground-kept : formerGround q ≡ groundOf q
+  pub ground-kept : formerGround q ≡ plainGround q
   ground-kept = rw sets-kept
 
 -- ---- question 10
@@ -225,14 +225,18 @@ fits-one-way [] a b h = tt
 fits-one-way (k ∷ C) a b (inl h) = or-left a b h
 fits-one-way (k ∷ C) a b (inr h) = or-right a b h
 
--- question 10 turns down no accepted query
-pub ten-yes : (q : Query) → Accepted q → T (question10 (groundOf q))
+-- question 10 turns down no query with closed sets
+fits-all : (g : Ground) → Closed (names-only (g .query)) (setOf (g .sets)) → T (question10 g)
 unfolding question10
-ten-yes q ok = all-intro _ (joinOrder q) (λ p m. fits-one-way (usableAt (groundOf q) p) _ _ (all-in-one q ok p))
+fits-all g closed = all-intro _ (g .order) (λ p m. fits-one-way (usableAt g p) _ _ (all-in-one g closed p))
+
+-- and so no accepted query
+pub ten-yes : (q : Query) → Accepted q → T (question10 (groundOf q))
+ten-yes q ok = fits-all (groundOf q) (full-closed q ok)
 
 -- with document 01's sets it turned down none that had passed question 8
 pub former-ten : (q : Query) → Accepted q → T (question8 q) → T (question10 (formerGround q))
-former-ten q ok eight = subst (λ (g : Ground). T (question10 g)) (sym (ground-kept q ok eight)) (ten-yes q ok)
+former-ten q ok eight = subst (λ (g : Ground). T (question10 g)) (sym (ground-kept q ok eight)) (fits-all (plainGround q) (plain-closed q ok))
 
 -- ---- blanking steps
 
@@ -290,7 +294,7 @@ by-more q nodes (j ∷ js) S S′ more p = by-more q nodes js (map former (range
 
 module _ (q : Query) where
   abbrev g : Ground
-  g = groundOf q
+  g = plainGround q
 
   -- what was applied by document 01's rule is applied
   applied-more : Within (formerApplied g) (pairSets g)
@@ -312,10 +316,10 @@ module _ (q : Query) where
       → ((k t : ℕ) → (laws .Names k t ↔ t isIn namesOf (conditionAt q k))) → T (question9 q)
       → planRows D (planTree g) (formerBlankings g) ≡ ordered (rowsOf D (joinTree q))
   unfolding formerBlankings formerMissing tableNumbers
-  former-rows ok laws wide names nine = same-rows-by q ok laws wide names nine (formerBlankings g)
+  former-rows ok laws wide names nine = same-rows-by q ok laws wide names (blankingSets q) (λ C. C) (plain-sound q ok laws wide names) nine (formerBlankings g)
       (λ s m c n. keep-elim _ (setOf (blankingSets q) (s .0))
       (subst (λ (l : List ℕ). c isIn l) (steps-elim (formerMissing g) (tableCount q) s m .2) n) .0)
       (λ t b c m. by-cases (decT (has (setOf (formerApplied g) t) c))
-      (λ y. inl (applied-more t c (has-elim (setOf (formerApplied g) t) c y)))
+      (λ y. inl (subst (λ (S : Sets). c isIn setOf S t) (sym (close-none g (λ C. refl))) (applied-more t c (has-elim (setOf (formerApplied g) t) c y))))
       (λ y. let z : c isIn formerMissing g t = keep-intro (λ (k : ℕ). not (has (setOf (formerApplied g) t) k)) m (not-T (has (setOf (formerApplied g) t) c) y) in
       inr ((t, formerMissing g t), steps-intro (formerMissing g) (tableCount q) t b c z, refl, z)))

@@ -1,5 +1,5 @@
 -- All usable conditions of a pair pull it the same way, and each pair is joined by one of the four kinds: document 02, item 5. With closed
--- sets, and so with the blanking sets of every query that questions 5 to 7 do not turn down. Assumes nothing.
+-- sets, and so with the blanking sets of every query that questions 5 to 7 do not turn down, and with what follows from them. Assumes nothing.
 use mathlib.Core.Path.{_≡_, refl, sym, subst}
 use mathlib.Core.Logic.{_↔_, _⊎_, inl, ⊎-elim, ⊎-map, _≢_}
 use mathlib.Core.Bool.{Bool, true, false, not}
@@ -17,12 +17,13 @@ use Rattle.rows.proofs.laws.ShapesLaws.{Lawful}
 use Rattle.rows.proofs.laws.Sets.{Closed}
 use Rattle.vocabulary.specs.Report.{Query, conditionAt, Pair}
 use Rattle.vocabulary.specs.Nodes.{tablesAt}
-use Rattle.plan.specs.Sets.{Sets, setOf, blankingSets}
-use Rattle.plan.specs.Plan.{Ground, inEvery, usable, usableAt, allIn, orderNodes, paired, planned, groundOf}
-use Rattle.plan.specs.FourKinds.{inOneAlone, pullApart, OneWay, SameWay, OneOfFour, noneUsable, allInBoth, allInSecond, allInFirst, FourKinds}
+use Rattle.plan.specs.Sets.{Sets, setOf}
+use Rattle.plan.specs.Plan.{Ground, inEvery, usable, usableAt, allIn, orderNodes, paired, planned, groundOf, plainGround}
+use Rattle.plan.specs.FourKinds.{inOneAlone, pullApart, OneWay, SameWay, OneOfFour, noneUsable, allInBoth, allInSecond, allInFirst, FourKinds, PulledOneWay}
 use Rattle.plan.proofs.laws.TiedLaws.{crosses-across}
 use Rattle.plan.proofs.laws.PlanLaws.{usable-elim, every-elim, every-intro}
 use Rattle.plan.proofs.laws.QueryLaws.{Accepted, names-only, named-closed}
+use Rattle.plan.proofs.laws.ClosedSetLaws.{sets-closed}
 
 -- ---- closed sets
 
@@ -84,27 +85,30 @@ module _ (g : Ground) (p : Pair) where
           (allInFirst (some e) (subst T (sym x) tt) (λ h. subst T y h))
       go (k ∷ C) e false x false y = absurd (⊎-elim (λ h. subst T x h) (λ h. subst T y h) way)
 
--- ---- a query that questions 5 to 7 do not turn down
+-- ---- what a plan is made of, with closed sets
 
-module _ (q : Query) (ok : Accepted q) where
+module _ (g : Ground) (closed : Closed (names-only (g .query)) (setOf (g .sets))) where
+  abbrev q : Query
+  q = g .query
+
   abbrev S : Sets
-  S = blankingSets q
+  S = g .sets
 
   -- what a query's conditions name is all that is asked of them
   abbrev names : (k t : ℕ) → (t isIn namesOf (conditionAt q k) ↔ t isIn namesOf (conditionAt q k))
   names k t = (λ x. x, λ x. x)
 
-  pub same-way : SameWay q
+  same-way : SameWay q S
   same-way s l c d m n = (
     same-test (inEvery S s c) (inEvery S s d)
-        (with-left q S (names-only q) names (named-closed q ok) s l c d m n)
-        (with-left q S (names-only q) names (named-closed q ok) s l d c n m),
+        (with-left q S (names-only q) names closed s l c d m n)
+        (with-left q S (names-only q) names closed s l d c n m),
     same-test (inEvery S l c) (inEvery S l d)
-        (with-right q S (names-only q) names (named-closed q ok) s l c d m n)
-        (with-right q S (names-only q) names (named-closed q ok) s l d c n m),
+        (with-right q S (names-only q) names closed s l c d m n)
+        (with-right q S (names-only q) names closed s l d c n m),
   )
 
-  pub one-way : OneWay q
+  one-way : OneWay q S
   unfolding pullApart inOneAlone
   one-way s l c d m n h =
       let (x, y) = and-yes (inOneAlone S s l c) (inOneAlone S l s d) h in
@@ -112,10 +116,22 @@ module _ (q : Query) (ok : Accepted q) where
       (subst T (same-way s l c d m n .0) (and-yes (inEvery S s c) (not (inEvery S l c)) x .0))
 
   -- at each pair of nodes all usable conditions are in the sets of the one, or all in the sets of the other
-  pub all-in-one : (p : Pair) → T (allIn (groundOf q) p (p .0)) ⊎ T (allIn (groundOf q) p (p .1))
+  pub all-in-one : (p : Pair) → T (allIn g p (p .0)) ⊎ T (allIn g p (p .1))
   unfolding allIn usableAt
-  all-in-one p = all-one-way q S (names-only q) names (named-closed q ok)
-      (tablesAt (orderNodes (groundOf q)) (p .0)) (tablesAt (orderNodes (groundOf q)) (p .1))
+  all-in-one p = all-one-way q S (names-only q) names closed (tablesAt (orderNodes g) (p .0)) (tablesAt (orderNodes g) (p .1))
 
-  pub four-kinds : FourKinds q
-  four-kinds p = one-of-four (groundOf q) p (all-in-one p)
+  pub pulled-one-way : PulledOneWay g
+  pulled-one-way = (one-way, same-way, λ p. one-of-four g p (all-in-one p))
+
+-- ---- a query that questions 5 to 7 do not turn down
+
+module _ (q : Query) (ok : Accepted q) where
+  -- its blanking sets, and these with what follows from them, are closed
+  pub plain-closed : Closed (names-only q) (setOf (plainGround q .sets))
+  plain-closed = named-closed q ok
+
+  pub full-closed : Closed (names-only q) (setOf (groundOf q .sets))
+  full-closed = sets-closed q (names-only q) (λ k t. (λ x. x, λ x. x)) (named-closed q ok)
+
+  pub four-kinds : FourKinds (groundOf q)
+  four-kinds = pulled-one-way (groundOf q) full-closed .2

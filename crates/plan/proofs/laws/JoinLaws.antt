@@ -10,8 +10,6 @@ use lib.Dec.{ltb, T, not-T}
 use lib.IntN.{ℤ}
 use lib.ListN.{length, getD, List·getD-eq-default}
 use mir.Facts.{ltb-yes, ltb-no}
-use lib.Seq.{getD-take, length-take-le}
-use Rattle.cells.proofs.laws.TableLaws.{getD-within}
 use Rattle.cells.specs.Condition.{namesOf, sideNames}
 use Rattle.cells.specs.declared.condition.Condition.{Condition}
 use Rattle.cells.specs.declared.condition.Side.the-variants.{Column, Constant}
@@ -23,25 +21,16 @@ use Rattle.vocabulary.specs.Bits.{wordSize, hasBit}
 use Rattle.vocabulary.specs.Steps.{bitsOf}
 use Rattle.vocabulary.proofs.laws.BitLaws.{bits-append, bit-elim, bit-intro, word-is}
 use Rattle.vocabulary.specs.inner.Words.{wordTables, tableBits, onlyIf, unionTo}
+use Rattle.vocabulary.proofs.laws.StoredLaws.{condition-count}
 use Rattle.vocabulary.proofs.laws.WordLaws.{only-elim, only-intro, union-elim, union-intro}
 use Rattle.vocabulary.specs.declared.query.StoredQuery.{StoredQuery}
 use Rattle.plan.specs.inner.Words.{conditionBits, nameBits, namedBits}
 
--- the conditions that are kept, and how many
+-- the conditions that are kept
 module _ (q : StoredQuery) (h : q .«condition_count» ≤ length (q .conditions)) where
-  pub condition-count : length (queryIn q .conditions) ≡ q .«condition_count»
-  unfolding queryIn
-  condition-count = length-take-le (q .«condition_count») (q .conditions) h
-
-  pub condition-kept : (k : ℕ) (d : Condition) → k < q .«condition_count» → getD (q .conditions) k d ≡ conditionAt (queryIn q) k
-  unfolding queryIn conditionAt
-  condition-kept k d l =
-      getD-within (q .conditions) k d noCondition (omega arith)
-      ∙ sym (getD-take (q .«condition_count») (q .conditions) k noCondition l)
-
   pub condition-bits : (C : List ℕ) → conditionBits (queryIn q) C ≡ bitsOf (keep (has C) (range 0 (q .«condition_count»)))
   unfolding conditionBits conditionNumbers
-  condition-bits C = ap (λ (n : ℕ). bitsOf (keep (has C) (range 0 n))) condition-count
+  condition-bits C = ap (λ (n : ℕ). bitsOf (keep (has C) (range 0 n))) (condition-count q h)
 
 -- ---- the tables that one condition names
 

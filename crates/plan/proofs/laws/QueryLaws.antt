@@ -6,10 +6,8 @@ use mathlib.Core.List.{List, [], _∷_, _++_, map}
 use Prim.Native.Nat.{ℕ, _<_}
 use native.Mathlib.Decide.{decLt}
 use native.Mathlib.Omega.{arith}
-use lib.Dec.{T, leb}
+use lib.Dec.{T}
 use lib.ListN.{length, length-map, List·getD-eq-default}
-use mir.Facts.{and-yes}
-use Rattle.cells.specs.Limits.{mostWritten}
 use Rattle.cells.specs.Condition.{namesOf}
 use Rattle.rows.specs.Lists.{_isIn_, range, any}
 use Rattle.rows.proofs.laws.ListLaws.{length-range, here, there, append-elim, all-elim, any-elim}
@@ -23,15 +21,15 @@ use Rattle.vocabulary.proofs.laws.NodeLaws.{Matched, noPair, nextPair}
 use Rattle.vocabulary.proofs.laws.WellRead.{WellRead}
 use Rattle.plan.specs.Sets.{Sets, setsAfter, setsBy, setOf, emptySets, blankingSets}
 use Rattle.plan.specs.Plan.{crosses}
-use Rattle.plan.specs.Questions.{question5, question6, question7, conditionFits}
+use Rattle.plan.specs.Questions.{question5, joinsFit, question7, conditionFits}
 use Rattle.plan.proofs.laws.BuiltLaws.{tables-exist, of-last, last-has-every, sets-applied}
 use Rattle.plan.proofs.laws.TiedLaws.{fits-inside, crosses-across, Tied, nodes-shaped}
 
--- questions 5 to 7 do not turn the query down
+-- questions 5 to 7 do not turn the query down, whatever the count of its conditions
 pub record Accepted (q : Query) : Type 0 where
   pub read : WellRead q
   pub five : T (question5 q)
-  pub six : T (question6 q)
+  pub six : T (joinsFit q)
   pub seven : T (question7 q)
 
 -- a table that there is not has no set
@@ -69,7 +67,7 @@ module _ (q : Query) (ok : Accepted q) where
     pub plain : BlanksRight (j .kind)
 
   pub join-fits : (j : Join) → j isIn q .joins → JoinFits j
-  unfolding question6 question7
+  unfolding joinsFit question7
   join-fits j m = record {
     tied = record {
       numbered = ok .read j m .0;
@@ -85,7 +83,7 @@ module _ (q : Query) (ok : Accepted q) where
 
       six : (c : ℕ) → c isIn j .conditions → T (conditionFits q ts (conditionAt q c))
       six c n = all-elim (λ k. conditionFits q ts (conditionAt q k)) (j .conditions)
-          (all-elim _ (q .joins) (and-yes (leb (length (q .conditions)) mostWritten) _ (ok .six) .1) j m) c n
+          (all-elim _ (q .joins) (ok .six) j m) c n
 
       seven : T (any (λ k. crosses (conditionAt q k) (tablesAt (joinNodes q) (j .left)) (tablesAt (joinNodes q) (j .right))) (j .conditions))
       seven = all-elim _ (q .joins) (ok .seven) j m

@@ -9,7 +9,7 @@ use Rattle.cells.specs.Limits.{mostSteps}
 use Rattle.cells.specs.Choice.{if_then_else_}
 use Rattle.vocabulary.specs.Steps.{zeroStep, kindNumber, pairStep}
 use Rattle.vocabulary.specs.declared.step.Step.{Step}
-use Rattle.plan.specs.Plan.{Ground, planned, appliedSets}
+use Rattle.plan.specs.Plan.{Ground, planned, pairSets}
 use Rattle.plan.specs.inner.Words.{setWords}
 use Rattle.plan.specs.declared.join.BitJoin.{BitJoin}
 use Rattle.plan.specs.declared.steps.Plan.{Plan}
@@ -31,9 +31,9 @@ pushed s x = record { steps = set (s .steps) (s .count) x; count = s .count + 1 
 unfoldable pub pairSteps : Ground → List Step
 pairSteps g = map (λ p. pairStep (planned g p) 0) (g .order)
 
--- the steps of the pairs, and the sets that they apply
+-- the steps of the pairs, and the sets that they apply before these are closed
 unfoldable pub plannedPairs : Ground → PlannedPairs
-plannedPairs g = record { steps = listed (pairSteps g); applied = setWords (appliedSets g) }
+plannedPairs g = record { steps = listed (pairSteps g); applied = setWords (pairSets g) }
 
 -- the conditions of a set that were not applied
 unfoldable pub missingBits : ℕ → ℕ → ℕ

@@ -31,7 +31,7 @@ use Rattle.plan.proofs.laws.SetWords.{node-word}
 use Rattle.plan.specs.inner.PairWords.{crossesBits}
 use Rattle.plan.proofs.laws.PairWordLaws.{crosses-word}
 use Rattle.plan.proofs.laws.NodeWords.{node-count, nodes-from}
-use Rattle.plan.proofs.laws.JoinLaws.{condition-count}
+use Rattle.vocabulary.proofs.laws.StoredLaws.{condition-count}
 use Rattle.plan.proofs.laws.FoldWords.{tables-most, joins-most}
 use Rattle.questions.proofs.laws.Kept.{kept-drop, kept-end, all-same, any-same, enough-room}
 use Rattle.questions.specs.inner.ConditionWords.{columnUnder, sideUnder, conditionUnder, numberFits, numberCrosses, conditionsUnder, joinCrosses}

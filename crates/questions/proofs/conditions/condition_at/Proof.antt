@@ -4,7 +4,7 @@ use native.Mathlib.Omega.{arith}
 use lib.ListN.{length, length-map}
 use borrow.Author.Needs.{needs}
 use Rattle.vocabulary.specs.Report.{noCondition}
-use Rattle.plan.proofs.laws.JoinLaws.{condition-kept}
+use Rattle.vocabulary.proofs.laws.StoredLaws.{condition-kept}
 use Rattle.questions.proofs.laws.ConditionWordLaws.{no-condition}
 use Rattle.questions.proofs.conditions.condition_at.Statement.{statement}
 use Rattle.questions.proofs.conditions.condition_at.Tie as tie
