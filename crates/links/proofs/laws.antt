@@ -1,4 +1,5 @@
 -- Laws of the definitions, and what only proofs use.
+pub mod ApartLaws
 pub mod ChainLaws
 pub mod ClassLaws
 pub mod ClassSteps

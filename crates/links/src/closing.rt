@@ -1,4 +1,5 @@
 // Sets with the conditions that follow from them.
+use crate::apart;
 use crate::classes;
 use crate::column;
 use crate::column::PLACES;
@@ -72,10 +73,13 @@ fn close_each(q: StoredQuery, sets: [u64; TABLES]) -> [u64; TABLES]
     next
 }
 
-// Each table's set with what follows from it.
+// Each table's set with what follows from it; where no two lines share a column the set has it already.
 pub fn close_sets(q: StoredQuery, sets: [u64; TABLES]) -> [u64; TABLES]
     requires { ⌜ Counted q × LinksWithin (queryIn q) ⌝ }
     ensures { λ r. ⌜ r ≡ closedWords (queryIn q) sets ⌝ }
 {
+    if apart::lines_apart(q) {
+        return sets;
+    }
     close_each(q, sets)
 }

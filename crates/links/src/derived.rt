@@ -15,7 +15,6 @@ ghost use Rattle.cells.specs.Choice.{if_then_else_};
 ghost use Rattle.vocabulary.specs.Bits.{wordSize};
 ghost use Rattle.vocabulary.specs.inner.Stored.{queryIn};
 ghost use Rattle.vocabulary.specs.inner.Counted.{Counted};
-ghost use Rattle.links.specs.inner.Derives.{Derives};
 ghost use Rattle.links.specs.inner.ClassWords.{behindWord, derivedWord, equalAt, numberedMore, columnTo, derivedTo, derivedNumbered, withNumbered};
 
 // Conditions and how many they are; past 64 they are no longer kept, and the count stays at 65.
@@ -138,7 +137,7 @@ fn with_all(s: Numbered, classes: [u64; PLACES], stated: [u64; PLACES]) -> Numbe
 }
 
 // The query with the conditions that chains of the sets' lines give, in order behind the written ones; 65 are too many.
-fn derive_all(q: StoredQuery, sets: [u64; TABLES]) -> StoredQuery
+pub fn derive(q: StoredQuery, sets: [u64; TABLES]) -> StoredQuery
     requires { ⌜ Counted q ⌝ }
     ensures { λ r. ⌜ r ≡ withNumbered q (derivedNumbered (queryIn q) sets (record { conditions = q .conditions; count = q .«condition_count» })) ⌝ }
 {
@@ -156,12 +155,4 @@ fn derive_all(q: StoredQuery, sets: [u64; TABLES]) -> StoredQuery
     full.conditions = kept;
     full.condition_count = all.count as u16;
     full
-}
-
-// The query with the conditions that chains of the sets' lines give, in order behind the written ones; 65 are too many.
-pub fn derive(q: StoredQuery, sets: [u64; TABLES]) -> StoredQuery
-    requires { ⌜ Counted q ⌝ }
-    ensures { λ r. ⌜ Derives q sets r ⌝ }
-{
-    derive_all(q, sets)
 }

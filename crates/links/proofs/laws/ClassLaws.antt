@@ -1,8 +1,8 @@
 -- The words that the code keeps of chains: a column's word has the columns that a chain links to it. Assumes nothing.
 use mathlib.Core.Path.{_≡_, refl, sym, ap, ap₂, _∙_, subst}
 use mathlib.Core.Logic.{_↔_, _⊎_, inl, inr, ⊎-elim}
-use mathlib.Core.Bool.{Bool, true, false, _&&_}
-use mathlib.Core.List.{List, [], _∷_, _++_, flatMap}
+use mathlib.Core.Bool.{Bool, true, false}
+use mathlib.Core.List.{List, [], _∷_, flatMap}
 use Prim.Native.Nat.{ℕ, zero, suc, _<_, _+_, _*_, _^_}
 use native.Mathlib.Omega.{arith}
 use lib.Bits.{bitOr}
@@ -16,7 +16,7 @@ use Rattle.cells.specs.declared.condition.Condition.{Condition}
 use Rattle.cells.specs.declared.condition.Side.{Side}
 use Rattle.cells.specs.declared.condition.Side.the-variants.{Column, Constant}
 use Rattle.rows.specs.Lists.{_isIn_, range, keep}
-use Rattle.rows.proofs.laws.ListLaws.{here, there, append-left, append-right, append-elim, range-next, keep-append, keep-elim, keep-intro, range-intro, range-elim, flatMap-intro, flatMap-elim, Includes}
+use Rattle.rows.proofs.laws.ListLaws.{here, there, append-left, append-elim, range-next, keep-elim, keep-intro, range-intro, flatMap-intro, flatMap-elim, Includes}
 use Rattle.vocabulary.specs.Report.{Query, conditionAt}
 use Rattle.vocabulary.specs.Bits.{wordSize, hasBit}
 use Rattle.vocabulary.specs.Steps.{bitsOf}
@@ -70,6 +70,19 @@ links-of k = test (eqb (k .operator) 2) refl
     test : (b : Bool) → eqb (k .operator) 2 ≡ b → Links k
     test true f = side (k .side) refl f
     test false f = none (rw f) (rw f)
+
+-- a condition that links two columns links no others, and these are their numbers
+pub numbers-of : (k : Condition) (l : Link) → l isIn linkOf k → (linkOf k ≡ l ∷ []) × (linkNumbers k ≡ numbered l)
+numbers-of k l m = links (links-of k)
+  where
+    single : (l′ : Link) → l isIn (l′ ∷ []) → l ≡ l′
+    single l′ (here e) = e
+
+    links : Links k → (linkOf k ≡ l ∷ []) × (linkNumbers k ≡ numbered l)
+    links (none e f) = elim (subst (λ (z : List Link). l isIn z) e m) [ ]
+    links (one l′ e f) =
+        let s : l ≡ l′ = single l′ (subst (λ (z : List Link). l isIn z) e m) in
+        (e ∙ ap (λ (z : Link). z ∷ []) (sym s), f ∙ ap numbered (sym s))
 
 -- ---- one link more
 
@@ -183,7 +196,7 @@ module _ (words : List ℕ) (l : Link) (L : List Link) (x : Inside (l .0)) (y : 
 
 module _ (q : Query) (within : LinksWithin q) (w : ℕ) where
   -- the links of the first n conditions that are in the set
-  abbrev linksTo : ℕ → List Link
+  abbrev pub linksTo : ℕ → List Link
   linksTo n = linksOf q (keep (hasBit w) (range 0 n))
 
   -- one condition more, where it is in the set
@@ -215,7 +228,8 @@ module _ (q : Query) (within : LinksWithin q) (w : ℕ) where
   unfolding linkedWords isLink noLink
   none-more words = refl
 
-  classes-to : (n : ℕ) → Classes (classesTo q w n) (linksTo n)
+  -- the words of the first n conditions have the chains of those that are in the set
+  pub classes-to : (n : ℕ) → Classes (classesTo q w n) (linksTo n)
   unfolding classesTo linkIn linksOf keep range flatMap
   classes-to zero = classes-none
   classes-to (suc n) = member (hasBit w n) refl (classes-to n)

@@ -1,13 +1,12 @@
 -- The word of a set with what follows from it. Assumes nothing.
-use mathlib.Core.Path.{_≡_, refl, sym, ap, _∙_, subst}
-use mathlib.Core.Logic.{_↔_, _⊎_, inl, inr, ⊎-elim}
+use mathlib.Core.Path.{_≡_, refl, sym, subst}
+use mathlib.Core.Logic.{inl, inr, ⊎-elim}
 use mathlib.Core.Bool.{Bool, not, _&&_}
 use mathlib.Core.List.{List, [], _∷_}
-use Prim.Native.Nat.{ℕ, zero, suc, _<_, _≤_, _^_}
+use Prim.Native.Nat.{ℕ, zero, suc, _<_, _^_}
 use native.Mathlib.Decide.{ℕ-discrete}
 use native.Mathlib.Omega.{arith}
 use mathlib.Core.Logic.{by-cases}
-use lib.Bits.{bitOr}
 use lib.Dec.{T, T-not, not-T}
 use lib.ListN.{length, getD}
 use mir.Facts.{and-yes, yes-and}
@@ -20,10 +19,10 @@ use Rattle.vocabulary.specs.inner.Words.{onlyIf}
 use Rattle.vocabulary.proofs.laws.BitLaws.{bit-elim, bit-intro, word-is}
 use Rattle.vocabulary.proofs.laws.WordLaws.{or-elim, or-intro, none-elim, only-elim, only-intro}
 use Rattle.links.specs.Links.{Link, linkOf, linked, statedBefore, follows, closeSet}
-use Rattle.links.specs.inner.ClassWords.{noLink, linkNumbers, isLink, inGroup, classWords, linesOf, followingTo, closedWord}
+use Rattle.links.specs.inner.ClassWords.{linkNumbers, isLink, inGroup, classWords, linesOf, followingTo, closedWord}
 use Rattle.links.specs.inner.LinksWithin.{Inside, LinksWithin}
 use Rattle.links.specs.declared.column.ColumnLink.{ColumnLink}
-use Rattle.links.proofs.laws.ClassLaws.{numberOf, numbered, number-below, Links, one, none, links-of, class-linked, one-bit, bit-one}
+use Rattle.links.proofs.laws.ClassLaws.{numberOf, numbered, number-below, numbers-of, class-linked, one-bit, bit-one}
 use Rattle.links.proofs.laws.CloseLaws.{close-elim, close-intro, follows-numbered}
 use Rattle.links.proofs.laws.LineLaws.{First, first-word}
 use borrow.Author.Tests.{lt-ltb}
@@ -32,7 +31,8 @@ module _ (q : Query) (firsts : ℕ) (classes : List ℕ) where
   abbrev follow : ℕ → Bool
   follow k = hasBit firsts k && inGroup classes (linkNumbers (conditionAt q k))
 
-  following-elim : (n k : ℕ) → T (hasBit (followingTo q firsts classes n) k) → (k < n) × T (follow k)
+  -- a condition of the word is one of the first n that state their link first, and its columns are in one group
+  pub following-elim : (n k : ℕ) → T (hasBit (followingTo q firsts classes n) k) → (k < n) × T (follow k)
   unfolding followingTo
   following-elim zero k t = absurd (none-elim k t)
   following-elim (suc n) k t = ⊎-elim (λ u. let (a, b) = following-elim n k u in (omega arith, b))
@@ -47,7 +47,7 @@ module _ (q : Query) (firsts : ℕ) (classes : List ℕ) where
       (λ e. inr (only-intro (follow n) (2 ^ n) k (subst (λ (z : ℕ). T (follow z)) e t) (bit-one n k e)))
       (λ e. inl (following-intro n k (omega arith) t)))
 
-group-elim : (classes : List ℕ) (l : Link) → T (inGroup classes (numbered l)) → T (hasBit (getD classes (numberOf (l .0)) 0) (numberOf (l .1)))
+pub group-elim : (classes : List ℕ) (l : Link) → T (inGroup classes (numbered l)) → T (hasBit (getD classes (numberOf (l .0)) 0) (numberOf (l .1)))
 unfolding inGroup
 group-elim classes l t = and-yes (isLink (numbered l)) _ t .1
 
@@ -67,19 +67,6 @@ module _ (q : Query) (within : LinksWithin q) (C : List ℕ) (few : (k : ℕ) �
   its : (k : ℕ) (l : Link) → linkOf (conditionAt q k) ≡ l ∷ [] → l isIn linkOf (conditionAt q k)
   its k l e = subst (λ (z : List Link). l isIn z) (sym e) (here refl)
 
-  -- the numbers of a line that links two columns
-  numbers-of : (k : ℕ) (l : Link) → l isIn linkOf (conditionAt q k) → (linkOf (conditionAt q k) ≡ l ∷ []) × (linkNumbers (conditionAt q k) ≡ numbered l)
-  numbers-of k l m = links (links-of (conditionAt q k))
-    where
-      single : (l′ : Link) → l isIn (l′ ∷ []) → l ≡ l′
-      single l′ (here e) = e
-
-      links : Links (conditionAt q k) → (linkOf (conditionAt q k) ≡ l ∷ []) × (linkNumbers (conditionAt q k) ≡ numbered l)
-      links (none e f) = elim (subst (λ (z : List Link). l isIn z) e m) [ ]
-      links (one l′ e f) =
-          let s : l ≡ l′ = single l′ (subst (λ (z : List Link). l isIn z) e m) in
-          (e ∙ ap (λ (z : Link). z ∷ []) (sym s), f ∙ ap numbered (sym s))
-
   follow-follows : (k : ℕ) → First q k → T (inGroup classes (linkNumbers (conditionAt q k))) → T (follows q C k)
   unfolding follows
   follow-follows k (l, e, n) t =
@@ -87,7 +74,7 @@ module _ (q : Query) (within : LinksWithin q) (C : List ℕ) (few : (k : ℕ) �
       let (x, y) = within k l m in
       any-intro (λ (l : Link). linked q C (l .0) (l .1) && not (statedBefore q k (l .0) (l .1))) m
       (yes-and (linked q C (l .0) (l .1)) (not (statedBefore q k (l .0) (l .1)))
-      (class-linked q within C few (l .0) (l .1) x y .0 (group-elim classes l (subst (λ (z : ColumnLink). T (inGroup classes z)) (numbers-of k l m .1) t)))
+      (class-linked q within C few (l .0) (l .1) x y .0 (group-elim classes l (subst (λ (z : ColumnLink). T (inGroup classes z)) (numbers-of (conditionAt q k) l m .1) t)))
       (not-T (statedBefore q k (l .0) (l .1)) n))
 
   follows-follow : (k : ℕ) → T (follows q C k) → First q k × T (inGroup classes (linkNumbers (conditionAt q k)))
@@ -96,8 +83,8 @@ module _ (q : Query) (within : LinksWithin q) (C : List ℕ) (few : (k : ℕ) �
       let (l, m, u) = any-elim (λ (l : Link). linked q C (l .0) (l .1) && not (statedBefore q k (l .0) (l .1))) (linkOf (conditionAt q k)) t in
       let (v, w) = and-yes (linked q C (l .0) (l .1)) (not (statedBefore q k (l .0) (l .1))) u in
       let (x, y) = within k l m in (
-        (l, numbers-of k l m .0, T-not (statedBefore q k (l .0) (l .1)) w),
-        subst (λ (z : ColumnLink). T (inGroup classes z)) (sym (numbers-of k l m .1))
+        (l, numbers-of (conditionAt q k) l m .0, T-not (statedBefore q k (l .0) (l .1)) w),
+        subst (λ (z : ColumnLink). T (inGroup classes z)) (sym (numbers-of (conditionAt q k) l m .1))
             (group-intro classes l x y (class-linked q within C few (l .0) (l .1) x y .1 v)),
       )
 

@@ -1,34 +1,34 @@
 -- The derived conditions that the code puts behind the written ones are those of the definition, in its order. Assumes nothing.
 use mathlib.Core.Path.{_≡_, refl, sym, ap, ap₂, _∙_, subst}
-use mathlib.Core.Logic.{_↔_, _⊎_, inl, inr, ⊎-elim, by-cases}
+use mathlib.Core.Logic.{_↔_, inl, inr, ⊎-elim, by-cases}
 use mathlib.Core.Bool.{Bool, true, false, not, _&&_}
 use mathlib.Core.List.{List, [], _∷_, _++_, map, flatMap, append-nil, map-map, map-append}
-use Prim.Native.Nat.{ℕ, zero, suc, _<_, _≤_, _+_, _-_, _*_, _/_, _%_}
+use Prim.Native.Nat.{ℕ, zero, suc, _<_, _≤_, _+_, _/_}
 use native.Mathlib.Decide.{decLt}
 use native.Mathlib.Numerals.{add-one}
 use native.Mathlib.Omega.{arith}
-use lib.Bits.{bitOr, bitAnd}
+use lib.Bits.{bitAnd}
 use lib.Dec.{T, ltb}
-use lib.ListN.{length, getD, take, set, length-set, length-map, List·getD-eq-default, length-append}
+use lib.ListN.{length, getD, take, set, length-set, List·getD-eq-default}
 use lib.Seq.{take-suc-set, getD-set-other, append-snoc}
-use mir.Facts.{and-yes, yes-and}
 use borrow.Author.Tests.{lt-ltb, le-ltb}
 use Rattle.cells.specs.Choice.{if_then_else_}
 use Rattle.cells.specs.Limits.{mostTables, mostColumns, mostConditions}
 use Rattle.cells.specs.declared.condition.Condition.{Condition}
 use Rattle.cells.proofs.laws.BoolLaws.{same-test}
 use Rattle.rows.specs.Lists.{_isIn_, range, any, keep, has}
-use Rattle.rows.proofs.laws.ListLaws.{here, there, any-elim, any-intro, getD-isIn, isIn-at, keep-append, keep-elim, keep-intro, flatMap-append, range-next, range-intro, range-elim, has-elim, has-intro}
-use Rattle.vocabulary.specs.Report.{Query, tableCount}
+use Rattle.rows.proofs.laws.ListLaws.{any-elim, any-intro, getD-isIn, isIn-at, keep-append, keep-elim, keep-intro, flatMap-append, range-next, range-intro, range-elim, has-elim, has-intro}
+use Rattle.vocabulary.specs.Report.{Query}
 use Rattle.vocabulary.specs.Bits.{wordSize, hasBit}
 use Rattle.vocabulary.specs.Steps.{bitsOf}
 use Rattle.vocabulary.proofs.laws.BitLaws.{has-and, has-without, has-bits}
-use Rattle.vocabulary.proofs.laws.WordLaws.{or-elim, or-intro, tab-at}
-use Rattle.links.specs.Links.{Place, Link, linkOf, linked, statedBefore, derivedLinks, equalOf}
-use Rattle.links.specs.inner.ClassWords.{classWords, eitherWords, classesOfFirst, allClasses, linesTo, linesOf, behindWord, derivedWord, equalAt, numberedMore, columnTo, derivedTo, derivedNumbered}
-use Rattle.links.specs.inner.LinksWithin.{Inside, Exists, LinksExist, ColumnsFew, LinksWithin}
+use Rattle.vocabulary.proofs.laws.WordLaws.{or-elim, or-intro}
+use Rattle.links.specs.Links.{Place, linked, statedBefore, derivedLinks, equalOf}
+use Rattle.links.specs.inner.ClassWords.{classWords, classesOfFirst, allClasses, linesOf, behindWord, derivedWord, equalAt, numberedMore, columnTo, derivedTo, derivedNumbered}
+use Rattle.links.specs.inner.LinksWithin.{Inside, LinksExist, ColumnsFew, LinksWithin}
 use Rattle.links.specs.declared.derived.Numbered.{Numbered}
 use Rattle.links.proofs.laws.ClassLaws.{numberOf, number-is, number-below, class-linked}
+use Rattle.links.proofs.laws.ClassSteps.{either-at}
 use Rattle.links.proofs.laws.CloseLaws.{nothing-linked}
 use Rattle.links.proofs.laws.LineLaws.{stated-word}
 use Rattle.links.proofs.laws.PlaceLaws.{flat-same, map-flat, keep-same-in, placeAt, gives, derived-numbers}
@@ -123,6 +123,22 @@ all-over s (c ∷ cs) h k = by-cases (decLt (s .count) mostConditions)
     (all-over (record { conditions = set (s .conditions) (s .count) c; count = s .count + 1 }) cs (omega arith) (omega arith)))
     (λ l. over-stays (numberedMore s c) cs (omega (arith, more-over s c (omega arith))))
 
+-- ---- the columns of a number
+
+pub inside-at : (i : ℕ) → i < wordSize → Inside (placeAt i)
+inside-at i h = (omega arith, omega arith)
+
+pub number-at : (i : ℕ) → i < wordSize → numberOf (placeAt i) ≡ i
+number-at i h = number-is (placeAt i) (inside-at i h) ∙ omega arith
+
+-- columns that the words of the sets 0 to n have together are together in the words of one of these sets
+pub set-elim : (q : Query) (sets : List ℕ) (i j : ℕ) → i < wordSize → (n : ℕ) → T (hasBit (getD (classesOfFirst q sets n) i 0) j)
+    → (t : ℕ) × (t ≤ n) × T (hasBit (getD (classWords q (getD sets t 0)) i 0) j)
+unfolding classesOfFirst
+set-elim q sets i j h zero t = (0, omega arith, t)
+set-elim q sets i j h (suc n) t = ⊎-elim (λ u. let (s, l, v) = set-elim q sets i j h n u in (s, omega arith, v)) (λ u. (suc n, omega arith, u))
+    (or-elim _ _ j (subst (λ (w : ℕ). T (hasBit w j)) (either-at (classesOfFirst q sets n) (classWords q (getD sets (suc n) 0)) i h) t))
+
 -- ---- which columns give a derived condition
 
 -- the columns that a query's lines link are among all that a report may have
@@ -142,10 +158,6 @@ module _ (q : Query) (exist : LinksExist q) (few : ColumnsFew q) (S : List (List
       (λ h. elim (subst (λ (z : List ℕ). k isIn z) (List·getD-eq-default S [] (omega arith)) m) [ ])
 
   module _ (a b : Place) (x : Inside a) (y : Inside b) where
-    either-at : (u v : List ℕ) → getD (eitherWords u v) (numberOf a) 0 ≡ bitOr (getD u (numberOf a) 0) (getD v (numberOf a) 0)
-    unfolding eitherWords
-    either-at u v = tab-at (λ (i : ℕ). bitOr (getD u i 0) (getD v i 0)) wordSize (numberOf a) 0 (number-below a x)
-
     one-linked : (t : ℕ) → t < mostTables
         → T (hasBit (getD (classWords q (getD sets t 0)) (numberOf a) 0) (numberOf b)) ↔ T (linked q (getD S t []) a b)
     one-linked t h = subst (λ (w : ℕ). T (hasBit (getD (classWords q w) (numberOf a) 0) (numberOf b)) ↔ T (linked q (getD S t []) a b)) (sym (words t h))
@@ -153,17 +165,13 @@ module _ (q : Query) (exist : LinksExist q) (few : ColumnsFew q) (S : List (List
 
     first-elim : (n : ℕ) → n < mostTables → T (hasBit (getD (classesOfFirst q sets n) (numberOf a) 0) (numberOf b))
         → (t : ℕ) × (t ≤ n) × T (linked q (getD S t []) a b)
-    unfolding classesOfFirst
-    first-elim zero h t = (0, omega arith, one-linked 0 h .0 t)
-    first-elim (suc n) h t = ⊎-elim (λ u. let (i, l, v) = first-elim n (omega arith) u in (i, omega arith, v))
-        (λ u. (suc n, omega arith, one-linked (suc n) h .0 u))
-        (or-elim _ _ (numberOf b) (subst (λ (w : ℕ). T (hasBit w (numberOf b))) (either-at (classesOfFirst q sets n) (classWords q (getD sets (suc n) 0))) t))
+    first-elim n h t = let (i, l, u) = set-elim q sets (numberOf a) (numberOf b) (number-below a x) n t in (i, l, one-linked i (omega arith) .0 u)
 
     first-intro : (n : ℕ) → n < mostTables → (t : ℕ) → t ≤ n → T (linked q (getD S t []) a b)
         → T (hasBit (getD (classesOfFirst q sets n) (numberOf a) 0) (numberOf b))
     unfolding classesOfFirst
     first-intro zero h t l u = one-linked 0 h .1 (subst (λ (z : ℕ). T (linked q (getD S z []) a b)) (let e : t ≡ 0 = omega arith in e) u)
-    first-intro (suc n) h t l u = subst (λ (w : ℕ). T (hasBit w (numberOf b))) (sym (either-at (classesOfFirst q sets n) (classWords q (getD sets (suc n) 0))))
+    first-intro (suc n) h t l u = subst (λ (w : ℕ). T (hasBit w (numberOf b))) (sym (either-at (classesOfFirst q sets n) (classWords q (getD sets (suc n) 0)) (numberOf a) (number-below a x)))
         (or-intro (getD (classesOfFirst q sets n) (numberOf a) 0) (getD (classWords q (getD sets (suc n) 0)) (numberOf a) 0) (numberOf b)
         (by-cases (decLt t (suc n)) (λ k. inl (first-intro n (omega arith) t (omega arith) u))
         (λ k. let e : t ≡ suc n = omega arith in inr (one-linked (suc n) h .1 (subst (λ (z : ℕ). T (linked q (getD S z []) a b)) e u)))))
@@ -182,14 +190,6 @@ module _ (q : Query) (exist : LinksExist q) (few : ColumnsFew q) (S : List (List
     unfolding linesOf
     stated-same = same-test _ (statedBefore q (length (q .conditions)) a b) (stated-word q within (length (q .conditions)) a b x y .0)
         (stated-word q within (length (q .conditions)) a b x y .1)
-
-  -- ---- the columns of a number
-
-  inside-at : (i : ℕ) → i < wordSize → Inside (placeAt i)
-  inside-at i h = (omega arith, omega arith)
-
-  number-at : (i : ℕ) → i < wordSize → numberOf (placeAt i) ≡ i
-  number-at i h = number-is (placeAt i) (inside-at i h) ∙ omega arith
 
   behind-at : (i j : ℕ) → j < wordSize → hasBit (behindWord i) j ≡ ltb (i / mostColumns) (j / mostColumns)
   unfolding behindWord

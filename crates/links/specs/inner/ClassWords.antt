@@ -1,7 +1,7 @@
 -- Columns as numbers below 64, the columns that a chain links to each as a word, and derived conditions behind the written ones: what the
 -- functions of src/ compute. Assumes nothing.
-use mathlib.Core.Bool.{Bool, not, _&&_, _||_}
-use mathlib.Core.List.{List, [], _∷_, map, flatMap}
+use mathlib.Core.Bool.{Bool, true, not, _&&_}
+use mathlib.Core.List.{List, map}
 use Prim.Native.Nat.{ℕ, zero, suc, _+_, _-_, _*_, _/_, _%_, _^_}
 use lib.Bits.{bitOr, bitAnd, bitXor}
 use lib.Dec.{eqb, ltb}
@@ -19,6 +19,7 @@ use Rattle.vocabulary.specs.inner.Words.{onlyIf}
 use Rattle.vocabulary.specs.declared.query.StoredQuery.{StoredQuery}
 use Rattle.links.specs.declared.column.ColumnLink.{ColumnLink}
 use Rattle.links.specs.declared.lines.Lines.{Lines}
+use Rattle.links.specs.declared.apart.Seen.{Seen}
 use Rattle.links.specs.declared.derived.Numbered.{Numbered}
 
 -- ---- columns as numbers
@@ -105,6 +106,25 @@ linesTo q (suc n) = lineTold (linesTo q n) (linkNumbers (conditionAt q n)) n
 
 unfoldable pub linesOf : Query → Lines
 linesOf q = linesTo q (length (q .conditions))
+
+-- ---- lines that share no column
+
+-- the columns of a link; none where it is no link
+unfoldable pub columnsWord : ColumnLink → ℕ
+columnsWord l = if isLink l then bitOr (2 ^ (l .first)) (2 ^ (l .second)) else 0
+
+-- with the columns of one link more: whether none of them was named before
+unfoldable pub seenMore : Seen → ℕ → Seen
+seenMore s w = record { columns = bitOr (s .columns) w; apart = s .apart && eqb (bitAnd (s .columns) w) 0 }
+
+-- the columns that links of the first n conditions name, and whether no two of these conditions share one
+unfoldable pub seenTo : Query → ℕ → Seen
+seenTo q zero = record { columns = 0; apart = true }
+seenTo q (suc n) = seenMore (seenTo q n) (columnsWord (linkNumbers (conditionAt q n)))
+
+-- whether no two lines share a column: then a set has all that follows from it, and no condition is derived
+unfoldable pub linesApart : Query → Bool
+linesApart q = seenTo q (length (q .conditions)) .apart
 
 -- ---- a set with what follows from it
 

@@ -1,8 +1,8 @@
 -- The query with its derived conditions: its written conditions are the same, questions 5 to 7 are answered as they were, and its lines
 -- link columns that there are. Assumes nothing.
-use mathlib.Core.Path.{_≡_, refl, sym, ap, _∙_, subst}
+use mathlib.Core.Path.{_≡_, refl, sym, ap, ap₂, _∙_, subst}
 use mathlib.Core.Logic.{_⊎_, inl, inr, ⊎-elim, by-cases}
-use mathlib.Core.Bool.{Bool, _&&_, _||_, not}
+use mathlib.Core.Bool.{_&&_, not}
 use mathlib.Core.List.{List, [], _∷_, _++_, map, flatMap}
 use Prim.Native.Nat.{ℕ, _<_, _≤_, _+_}
 use native.Mathlib.Decide.{decLt}
@@ -10,21 +10,20 @@ use native.Mathlib.Omega.{arith}
 use lib.Dec.{T, eqb, ltb}
 use lib.ListN.{length, getD, length-append, length-map, List·getD-append, List·getD-eq-default}
 use mir.Facts.{and-yes, ltb-yes}
-use Rattle.cells.specs.Condition.{namesOf}
 use Rattle.cells.specs.declared.condition.Condition.{Condition}
 use Rattle.cells.specs.declared.condition.Side.{Side}
 use Rattle.cells.specs.declared.condition.Side.the-variants.{Column, Constant}
-use Rattle.rows.specs.Lists.{_isIn_, range, all, any, keep}
-use Rattle.rows.proofs.laws.ListLaws.{here, all-elim, all-intro, any-elim, any-intro, keep-elim, map-elim, flatMap-elim, range-elim, range-intro, getD-isIn, has-elim}
-use Rattle.vocabulary.specs.Report.{Query, Join, Report, queryOf, tableCount, tableNumbers, conditionAt, conditionNumbers, noCondition, joinPairs, orderOr, joinOrder}
-use Rattle.vocabulary.specs.Nodes.{tablesAt, nodesOf, joinNodes, treesOf, joinTrees, joinTree, wellBuilt}
-use Rattle.vocabulary.proofs.laws.WellRead.{WellRead}
-use Rattle.links.specs.Links.{Place, Link, sideLink, linkOf, placesOf, placePairs, derivedLinks, equalOf, withDerived}
+use Rattle.rows.specs.Lists.{_isIn_, range, has, keep}
+use Rattle.rows.proofs.laws.ListLaws.{here, all-elim, all-intro, any-elim, any-intro, append-elim, keep-elim, map-elim, flatMap-elim, range-elim, getD-isIn, isIn-at}
+use Rattle.vocabulary.specs.Report.{Query, Join, Pair, tableCount, tableNumbers, conditionAt, conditionNumbers, namedBy, noCondition, joinPairs, joinOrder}
+use Rattle.vocabulary.specs.Nodes.{tablesAt, nodesOf, joinNodes, treesOf, joinTrees, joinTree}
+use Rattle.vocabulary.proofs.laws.WellRead.{WellRead, OfJoins}
+use Rattle.links.specs.Links.{Place, Link, sideLink, linkOf, linksOf, linked, statedBefore, placesOf, placePairs, derivedLinks, equalOf, withDerived}
 use Rattle.links.specs.inner.LinksWithin.{Exists, LinksExist}
 use Rattle.links.proofs.laws.FollowLaws.{link-elim}
-use Rattle.plan.specs.Sets.{Sets, blankingSets}
+use Rattle.plan.specs.Sets.{Sets, taken, setAfter, setsAfter, setsBy, emptySets, blankingSets}
 use Rattle.plan.specs.Plan.{crosses}
-use Rattle.plan.specs.Full.{fullQuery, fullReport}
+use Rattle.plan.specs.Full.{fullQuery}
 use Rattle.plan.specs.Questions.{question5, question9, columnExists, sideExists, conditionFits, joinsFit, question7}
 use Rattle.plan.proofs.laws.QueryLaws.{Accepted}
 use Rattle.plan.proofs.laws.SetWords.{number-elim, number-intro}
@@ -109,3 +108,105 @@ module _ (q : Query) where
     six = full-fits (ok .read) (ok .six);
     seven = full-crosses (ok .read) (ok .seven);
   }
+
+-- ---- the columns that its lines link
+
+-- a column of a table, by its count of columns
+exists-by : (q : Query) (t c : ℕ) → c < getD (q .columns) t 0 → Exists q (t, c)
+unfolding tableCount
+exists-by q t c h = (
+  by-cases (decLt t (length (q .columns))) (λ l. l)
+      (λ l. let e : getD (q .columns) t 0 ≡ 0 = List·getD-eq-default (q .columns) 0 (omega arith) in absurd (omega arith)),
+  h,
+)
+
+column-exists : (q : Query) (ts : List ℕ) (t c : ℕ) → T (columnExists q ts t c) → Exists q (t, c)
+unfolding columnExists
+column-exists q ts t c h = exists-by q t c (ltb-yes (and-yes (has ts t) (ltb c (getD (q .columns) t 0)) h .1))
+
+-- a condition that question 6 does not turn down links columns that there are
+fits-exist : (q : Query) (ts : List ℕ) (k : Condition) → T (conditionFits q ts k) → (l : Link) → l isIn linkOf k → Exists q (l .0) × Exists q (l .1)
+unfolding conditionFits sideExists
+fits-exist q ts k h l m =
+    let (o, t, c, s) = link-elim k l m in
+    let (x, y) = and-yes (columnExists q ts (k .table) (k .column)) (sideExists q ts (k .table) (k .side)) h in
+    let z : T (columnExists q ts (l .1 .0) (l .1 .1) && not (eqb (k .table) (l .1 .0))) = subst (λ (i : Side). T (sideExists q ts (k .table) i)) s y in (
+      subst (λ (a : Place). Exists q a) (ap₂ (λ (a b : ℕ). (a, b)) t c) (column-exists q ts (k .table) (k .column) x),
+      column-exists q ts (l .1 .0) (l .1 .1) (and-yes (columnExists q ts (l .1 .0) (l .1 .1)) (not (eqb (k .table) (l .1 .0))) z .0),
+    )
+
+-- a condition number that there is not links nothing
+numbered-link : (q : Query) (k : ℕ) (l : Link) → l isIn linkOf (conditionAt q k) → k < length (q .conditions)
+unfolding conditionAt linkOf noCondition sideLink
+numbered-link q k l m = by-cases (decLt k (length (q .conditions))) (λ h. h)
+    (λ h. elim (subst (λ (z : Condition). l isIn linkOf z) (List·getD-eq-default (q .conditions) noCondition (let e : length (q .conditions) ≤ k = omega arith in e)) m) [ ])
+
+-- where each condition is one of a join
+pub links-exist : (q : Query) → Accepted q → OfJoins q → LinksExist q
+unfolding joinsFit
+links-exist q ok of k l m =
+    let (j, n, i) = of k (number-intro q k (numbered-link q k l m)) in
+    fits-exist q _ (conditionAt q k) (all-elim _ (j .conditions) (all-elim _ (q .joins) (ok .six) j n) k i) l m
+
+-- every column of a query exists
+places-exist : (q : Query) (a : Place) → a isIn placesOf q → Exists q a
+unfolding placesOf tableNumbers
+places-exist q a m =
+    let (t, _, n) = flatMap-elim (λ t. map (λ c. (t, c)) (range 0 (getD (q .columns) t 0))) (range 0 (tableCount q)) m in
+    let (c, i, e) = map-elim (λ (c : ℕ). (t, c)) (range 0 (getD (q .columns) t 0)) n in
+    subst (λ (z : Place). Exists q z) e (exists-by q t c (let r = range-elim 0 (getD (q .columns) t 0) i in omega arith))
+
+derived-exist : (q : Query) (S : Sets) (l : Link) → l isIn derivedLinks q S → Exists q (l .0) × Exists q (l .1)
+unfolding derivedLinks placePairs
+derived-exist q S l m =
+    let (n, _) = keep-elim _ (placePairs q) m in
+    let (a, i, k) = flatMap-elim (λ (a : Place). map (λ b. (a, b)) (keep (λ (b : Place). ltb (a .0) (b .0)) (placesOf q))) (placesOf q) n in
+    let (b, j, e) = map-elim (λ (b : Place). (a, b)) (keep (λ (b : Place). ltb (a .0) (b .0)) (placesOf q)) k in
+    subst (λ (z : Link). Exists q (z .0) × Exists q (z .1)) e
+    (places-exist q a i, places-exist q b (keep-elim (λ (b : Place). ltb (a .0) (b .0)) (placesOf q) j .0))
+
+-- and so with the derived conditions
+pub full-exist : (q : Query) → LinksExist q → LinksExist (fullQuery q)
+unfolding fullQuery withDerived conditionAt linkOf equalOf sideLink tableCount
+full-exist q exist k l m = part (append-elim (q .conditions) at)
+  where
+    at : conditionAt (fullQuery q) k isIn (q .conditions ++ map equalOf (derivedLinks q (blankingSets q)))
+    at = getD-isIn (q .conditions ++ map equalOf (derivedLinks q (blankingSets q))) k noCondition (numbered-link (fullQuery q) k l m)
+
+    single : (d : Link) → l isIn (d ∷ []) → l ≡ d
+    single d (here e) = e
+
+    part : conditionAt (fullQuery q) k isIn q .conditions ⊎ conditionAt (fullQuery q) k isIn map equalOf (derivedLinks q (blankingSets q))
+        → Exists q (l .0) × Exists q (l .1)
+    part (inl n) = let (i, h, e) = isIn-at noCondition n in exist i l (subst (λ (c : Condition). l isIn linkOf c) (sym e) m)
+    part (inr n) =
+        let (d, i, e) = map-elim equalOf (derivedLinks q (blankingSets q)) n in
+        let s : l ≡ d = single d (subst (λ (c : Condition). l isIn linkOf c) (sym e) m) in
+        subst (λ (z : Link). Exists q (z .0) × Exists q (z .1)) (sym s) (derived-exist q (blankingSets q) d i)
+
+-- ---- the derived conditions do not depend on the order
+
+module _ (columns : List ℕ) (joins : List Join) (conditions : List Condition) (a b : List Pair) where
+  abbrev first : Query
+  first = record { columns = columns; joins = joins; conditions = conditions; pairs = a }
+
+  abbrev second : Query
+  second = record { columns = columns; joins = joins; conditions = conditions; pairs = b }
+
+  sets-order : (nodes : List (List ℕ)) (js : List Join) (S : Sets) → setsBy first nodes js S ≡ setsBy second nodes js S
+  unfolding setsBy setsAfter setAfter taken conditionNumbers namedBy conditionAt tableNumbers tableCount
+  sets-order nodes [] S = refl
+  sets-order nodes (j ∷ js) S = sets-order nodes js (setsAfter first nodes j S)
+
+  full-order : fullQuery first .conditions ≡ fullQuery second .conditions
+  unfolding fullQuery withDerived derivedLinks linked linksOf statedBefore conditionAt placePairs placesOf tableNumbers tableCount blankingSets joinNodes nodesOf joinPairs emptySets
+  full-order = ap (λ (S : Sets). conditions ++ map equalOf (derivedLinks first S)) (sets-order (joinNodes first) joins (emptySets first))
+
+-- queries that differ in their order alone have the same conditions in all
+pub full-same : (q r : Query) → q .columns ≡ r .columns → q .joins ≡ r .joins → q .conditions ≡ r .conditions
+    → fullQuery q .conditions ≡ fullQuery r .conditions
+full-same q r c j d =
+    ap (λ (z : Query). fullQuery z .conditions)
+    (let x : record { columns = q .columns; joins = q .joins; conditions = q .conditions; pairs = q .pairs }
+    ≡ record { columns = r .columns; joins = r .joins; conditions = r .conditions; pairs = q .pairs } = rw (c, j, d) in x)
+    ∙ full-order (r .columns) (r .joins) (r .conditions) (q .pairs) (r .pairs)

@@ -1,9 +1,12 @@
--- The report that a text says: its query is well read, and it is what the text's lines say; no D line comes before its first T line.
+-- The report that a text says: its query is well read, and it is what the text's lines say; no D line comes before its first T line, and no
+-- condition before its first J line.
 -- Assumes nothing.
 use mathlib.Core.Path.{ap, _≡_, refl, sym, subst, _∙_}
 use mathlib.Core.List.{List, _∷_, []}
 use mathlib.Core.Option.{Option, none, some}
 use mathlib.Core.Bool.{Bool, true, false}
+use mathlib.Core.Logic.{_⊎_, inl, inr, ⊎-elim, ⊎-map, by-cases}
+use native.Mathlib.Decide.{ℕ-discrete}
 use Prim.Native.Nat.{ℕ, suc, _+_, _≤_, _<_}
 use lib.IntN.{ℤ}
 use native.Mathlib.Omega.{arith}
@@ -14,12 +17,12 @@ use Rattle.cells.proofs.laws.BoolLaws.{clash}
 use Rattle.cells.specs.Choice.{if_then_else_}
 use Rattle.cells.specs.Limits.{mostBytes}
 use Rattle.rows.specs.Lists.{_isIn_}
-use Rattle.rows.proofs.laws.ListLaws.{here, there, range-intro}
+use Rattle.rows.proofs.laws.ListLaws.{here, there, range-intro, range-elim}
 use Rattle.rows.proofs.laws.ShapesLaws.{BlanksRight}
 use Rattle.vocabulary.specs.Report.{Join, queryOf, conditionNumbers, Report}
-use Rattle.vocabulary.proofs.laws.WellRead.{WellRead}
+use Rattle.vocabulary.proofs.laws.WellRead.{WellRead, OfJoins}
 use Rattle.text.specs.Lines.{Line, JoinKind, innerJoin, leftOuterJoin, kindOf, JoinLine, joinLine, conditionLine, linesOf, joinsPart, OrderLine, orderLine, orderPart, tableLine, rowLine, tablesPart}
-use Rattle.text.specs.LineParts.{tableLines, joinLines, also, picked, ofTables}
+use Rattle.text.specs.LineParts.{tableLines, joinLines, also, picked, ofTables, ofJoins}
 use Rattle.text.specs.Bytes.{Bytes}
 use Rattle.text.specs.Reading.{firstRows, joinsOf, conditionsOf, firstConditions, conditionsIn, reportOf, textLines, readReport, beforeAll, placed, ifPlaced, Place, opens, follows, next}
 
@@ -62,6 +65,16 @@ report-well-read ls j m = (
   (λ c n. let r = joins-counted 0 (joinLines ls) j m c n in range-intro 0 (length (conditionsIn ls)) c (r .0) (r .1)),
   joins-plain 0 (joinLines ls) j m,
 )
+
+-- each condition is one of the first ones, which come before any J line, or one of a join
+joins-every : (i : ℕ) (ls : List JoinLine) (c : ℕ) → Counted i ls c
+    → c isIn firstConditions i ls ⊎ ((j : Join) × j isIn joinsOf i ls × c isIn j .conditions)
+unfolding firstConditions joinsOf conditionsOf
+joins-every i [] c h = absurd (omega arith)
+joins-every i (joinLine k a b ∷ ls) c h =
+    inr (⊎-elim (λ m. (_, here refl, m)) (λ (j, n, m). (j, there n, m)) (joins-every i ls c h))
+joins-every i (conditionLine d ∷ ls) c h = by-cases (ℕ-discrete c i) (λ e. inl (here e))
+    (λ e. ⊎-map (λ m. there m) (λ z. z) (joins-every (suc i) ls c (omega arith)))
 
 -- ---- a text that question 2 does not turn down
 
@@ -133,3 +146,30 @@ early-from p (orderPart x ∷ ls) n h =
 pub no-early-row : (bs : Bytes) (ls : List Line) → textLines bs ≡ some ls → earlyRows ls ≡ []
 unfolding beforeAll
 no-early-row bs ls e = early-from beforeAll ls (λ z. omega arith) (text-lines bs ls e .1)
+
+-- ---- no C or K line comes before the first J line
+
+first-from : (p : Place) (ls : List Line) → (p .part ≡ 2 → ⊥) → placed p ls ≡ true → firstConditions 0 (joinLines ls) ≡ []
+unfolding next opens follows picked also ofJoins firstConditions
+first-from p [] n h = refl
+first-from p (tablesPart (tableLine c k) ∷ ls) n h =
+    let (q, e, k) = rest-placed p (tablesPart (tableLine c k)) ls h in
+    first-from q ls (λ z. omega (arith, in-part (leb (p .part) 1) 1 q e)) k
+first-from p (tablesPart (rowLine zs) ∷ ls) n h =
+    let (q, e, k) = rest-placed p (tablesPart (rowLine zs)) ls h in
+    first-from q ls (λ z. omega (arith, in-part (eqb (p .part) 1) 1 q e)) k
+first-from p (joinsPart (joinLine i a b) ∷ ls) n h = refl
+first-from p (joinsPart (conditionLine c) ∷ ls) n h =
+    let (q, e, _) = rest-placed p (joinsPart (conditionLine c)) ls h in
+    let z : none ≡ some q = rw (ne-eqb (p .part) 2 n) at e in clash cc
+first-from p (orderPart (orderLine a b) ∷ ls) n h =
+    let (q, e, k) = rest-placed p (orderPart (orderLine a b)) ls h in
+    first-from q ls (λ z. omega (arith, in-part (leb (p .part) 3) 3 q e)) k
+
+-- each condition of a text is one of a join
+pub lines-of-joins : (bs : Bytes) (ls : List Line) → textLines bs ≡ some ls → OfJoins (queryOf (reportOf ls))
+unfolding queryOf reportOf conditionNumbers beforeAll
+lines-of-joins bs ls e c m =
+    let (a, b) = range-elim 0 (length (conditionsIn ls)) m in
+    ⊎-elim (λ n. elim (subst (λ (l : List ℕ). c isIn l) (first-from beforeAll ls (λ z. omega arith) (text-lines bs ls e .1)) n) [ ]) (λ z. z)
+    (joins-every 0 (joinLines ls) c (a, b))

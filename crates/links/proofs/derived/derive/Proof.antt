@@ -1,4 +1,4 @@
--- `links::derived::derive_all` meets its contract: the derived conditions, put behind those of the query. Assumes nothing.
+-- `links::derived::derive` meets its contract: the derived conditions, put behind those of the query. Assumes nothing.
 use mathlib.Core.Path.{sym, subst, ap, ap₂, _∙_}
 use mathlib.Core.List.{List}
 use Prim.Native.Nat.{ℕ, _≤_}
@@ -9,8 +9,8 @@ use Rattle.links.proofs.laws.ClassSteps.{count-derived}
 use Rattle.links.specs.declared.lines.Lines.{Lines}
 use Rattle.links.specs.declared.derived.Numbered.{Numbered}
 use borrow.Author.Needs.{needs}
-use Rattle.links.proofs.derived.derive_all.Statement.{statement}
-use Rattle.links.proofs.derived.derive_all.Tie as tie
+use Rattle.links.proofs.derived.derive.Statement.{statement}
+use Rattle.links.proofs.derived.derive.Tie as tie
 
 all-classes-requires : tie.Need-all-classes-requires
 all-classes-requires c κs = search needs
@@ -42,7 +42,7 @@ returns c =
     ap (withNumbered (a .q)) (w .with-all .ensures ∙ ap₂ (λ (k m : List ℕ). derivedTo start k m wordSize)
     (t .before .all-classes .ensures) (ap (λ (r : Lines). r .stated) (t .lines-of .ensures)))
 
-pub derive-all-spec : {M : Type 1} → statement M
-derive-all-spec =
+pub derive-spec : {M : Type 1} → statement M
+derive-spec =
     tie.close
     (tie.spec all-classes-requires lines-of-requires cast-t11 with-all-requires cast-full returns)
