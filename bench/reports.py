@@ -50,6 +50,23 @@ def same_key(t):
     return [line("C", 0, 0, "=", t, 0)]
 
 
+def linked_tables(random):
+    """Eight tables in groups of linked columns: column 0 of all, column 1 of all, column 2 of the first four, columns 3
+    and 4 of the first two. Of the 64 pairs of linked columns 32 are lines, the others are derived: 64 conditions in all."""
+    groups = [8, 8, 4, 2, 2]
+    width = lambda t: sum(size > t for size in groups)
+    text = "".join(table(width(t), [key * width(t) for key in keys(random, 160)]) for t in range(8))
+    more = 13                       # lines beside those that link each column to the table before
+    for t in range(1, 8):
+        text += line("J", "L", 0 if t == 1 else 6 + t, t)
+        for column in range(width(t)):
+            text += line("C", t - 1, column, "=", t, column)
+            if t > 1 and more:
+                text += line("C", t, column, "=", t - 2, column)
+                more -= 1
+    return text
+
+
 def reports():
     r = random.Random(1)
     yield "first", open(os.path.join(TOP, "samples", "first.in")).read()
@@ -98,6 +115,10 @@ def reports():
     # every pair of cells is compared
     yield "key-column-one-slot", table(1, one_slot(256), 0)
     yield "no-key-column-one-slot", table(1, one_slot(256))
+    yield "links-32", linked_tables(r)
+    # each table is joined to the one before it by columns that no other line names, so that nothing is derived
+    apart = "".join(table(2, [[k, 1000 * t + k] for k in range(1000 * t - 1000, 1000 * t - 900)]) for t in range(1, 9))
+    yield "links-apart", apart + chain(8, "L", lambda t: [line("C", t - 1, 1, "=", t, 0)])
 
 
 def main():

@@ -43,7 +43,7 @@ extern "C" {
 
 /* The least counts of the buffer that is handed over in: numbers of `answer` for rumbethola_report and
    rumbethola_direct, bytes of `out` for the prints; and what a call with less returns. They are this library's own. */
-#define RUMBETHOLA_ANSWER 189
+#define RUMBETHOLA_ANSWER 285
 #define RUMBETHOLA_DIRECT_ANSWER 2
 #define RUMBETHOLA_OUT 32768
 #define RUMBETHOLA_NO_ROOM 255
@@ -60,7 +60,8 @@ extern "C" {
       No buffer is changed.
    B. `cells`, `work` or `result` is shorter than its least count: refusal 1.
       `cells`, `work` and `result` are as before. `answer` or `out` is written, as below.
-   C. A question from 2 to 12 turns the text down: the refusal has its number. Numbers 8 and 10 are not used.
+   C. A question from 2 to 13 turns the text down: the refusal has its number. Numbers 8 and 10 are not used. Number 13:
+      there are more than RUMBETHOLA_CONDITIONS conditions in all, written and derived.
       `cells` and `work` are filled with 0, to their ends. `result` is as before. `answer` or `out` is written.
    D. There is an answer, of r rows and t tables.
       `cells` and `work` are filled with 0, to their ends. The first r x t numbers of `result` are the rows, one after
@@ -91,12 +92,21 @@ extern "C" {
 #define RUMBETHOLA_AT_SETS 4           /* eight blanking sets, table by table: bit k is condition k; those behind the
                                           tables are 0 */
 #define RUMBETHOLA_AT_STEPS 12         /* sixteen steps of five numbers; those behind the plan are 0 */
-#define RUMBETHOLA_AT_CONDITIONS 92    /* count of conditions: of the C and K lines of the text */
-#define RUMBETHOLA_AT_TALLIES 93       /* thirty-two conditions of three numbers, by rising number; those behind the
+#define RUMBETHOLA_AT_CONDITIONS 92    /* count of conditions: of the C and K lines of the text, and of the derived
+                                          ones */
+#define RUMBETHOLA_AT_TALLIES 93       /* sixty-four conditions of three numbers, by rising number; those behind the
                                           conditions are 0 */
 #define RUMBETHOLA_TABLES 8
 #define RUMBETHOLA_STEPS 16
-#define RUMBETHOLA_CONDITIONS 32
+#define RUMBETHOLA_CONDITIONS 64
+
+/* The numbers of conditions. With w C and K lines in the text, at most RUMBETHOLA_WRITTEN, condition k below w is the
+   k-th of these lines, counted from 0. Conditions w, w + 1, .. are derived: each says that two columns of different
+   tables are equal, follows from a chain of `=` C lines in the blanking set of a table, and is stated by no line of the
+   text, from either side. They are numbered by the lower table, then its column, then the higher table, then its
+   column, once for the report. A line that states what follows from a set joins that set, the lowest-numbered one where
+   several state it. */
+#define RUMBETHOLA_WRITTEN 32
 
 /* The five numbers of a step. Those that a kind lacks are 0. */
 #define RUMBETHOLA_STEP_NUMBERS 5

@@ -5,7 +5,11 @@
 
 The same seed and count give the same texts. About half of the texts are whole;
 the others are whole texts with one to three faults. Whole texts are answered
-or get 11; the faults bring in 2 to 7, 9 and 12.
+or get 11 or 13; the faults bring in 2 to 7, 9 and 12.
+
+In most texts `=` lines share columns, so that chains of them link columns that no
+line compares; lines stand twice, also the other way round and below another join.
+One text of twenty has so many links that it has about 64 conditions in all.
 """
 import os
 import random
@@ -54,6 +58,8 @@ def whole(rng, size=None):
     """A text with every count right. One table of four has a key column. Conditions name any
     table under their join; one text of five is made so that its tree is simplified: no join
     names a table right of an outer join that lies in a side which the join blanks."""
+    if size is None and rng.random() < 0.05:
+        return crowded(rng)
     text = Text()
     n = size or rng.choice([1, 2, 2, 2, 3, 3, 3, 3, 3, 4, 4, 4, 4, 5, 5, 6])
     most = rng.choice([1, 2, 3, 3, 4, 4]) if n < 5 else rng.choice([1, 2, 2, 3])
@@ -74,6 +80,9 @@ def whole(rng, size=None):
     simplified = rng.random() < 0.2
     outer_share = rng.choice([0.3, 0.6, 0.6, 0.9])
     loose = rng.choice([0, 0.3, 0.6])           # how many conditions beside the first
+    stamps = [rng.randrange(c) for c in columns]            # columns that links share
+    links = rng.choice([0, 0.3, 0.6, 0.9])      # how many C lines compare two of these by `=`
+    earlier = []                                # C lines of the joins below
     under = [{t} for t in range(n)]
     weak = [set() for _ in range(n)]            # tables right of an outer join below
     for left, right in tree(rng, n, rng.random() < 0.3):
@@ -83,26 +92,75 @@ def whole(rng, size=None):
         if simplified:
             rights = rights - weak[right]
             lefts = lefts - weak[left] if kind == "I" else lefts
-        own = [condition(rng, columns, rng.choice(sorted(lefts)), rng.choice(sorted(rights)))]
+        own = [condition(rng, columns, stamps, links,
+                         rng.choice(sorted(lefts)), rng.choice(sorted(rights)))]
         while rng.random() < loose:
             any_table = sorted(lefts | rights)
             a, b = rng.choice(any_table), rng.choice(any_table)
+            below = [line for line in earlier if {line[1], line[4]} <= set(any_table)]
             if rng.random() < 0.1:
-                own.append(list(rng.choice(own)))           # the same line twice
+                own.append(again(rng, rng.choice(own)))
+            elif below and rng.random() < 0.2:
+                own.append(again(rng, rng.choice(below)))
+            elif len(lefts) > 1 and rng.random() < links / 2:           # a link within one side
+                own.append(condition(rng, columns, stamps, 1, *rng.sample(sorted(lefts), 2)))
             elif rng.random() < 0.3 or a == b:
                 constant = rng.choice([0, 0, 1, 1, 2, highest, -1])
                 own.append(["K", a, rng.randrange(columns[a]), rng.choice(OPERATORS), constant])
             else:
-                own.append(condition(rng, columns, a, b))
+                own.append(condition(rng, columns, stamps, links, a, b))
         rng.shuffle(own)
+        earlier += [line for line in own if line[0] == "C"]
         for fields in own:
             text.add(*fields)
         under.append(under[left] | under[right])
         weak.append(weak[left] | weak[right] | (under[right] if kind == "L" else set()))
     if rng.random() < 0.7:
-        for left, right in tree(rng, n, rng.random() < 0.3):
-            text.add("P", left, right)
+        add_order(rng, text, n)
     return text
+
+
+def add_order(rng, text, n):
+    for left, right in tree(rng, n, rng.random() < 0.3):
+        text.add("P", left, right)
+
+
+def crowded(rng):
+    """A text of two to four tables that `=` lines over many columns link: from some 20 to some
+    hundreds of conditions in all, most often 56 to 68."""
+    text = Text()
+    n = rng.choice([2, 2, 2, 3, 3, 4])
+    columns = [rng.choice({2: [7, 8, 8], 3: [4, 5, 5], 4: [3, 3, 4, 8]}[n]) for _ in range(n)]
+    for count in columns:
+        text.add("T", count)
+        for _ in range(rng.choice([0, 1, 1, 2])):
+            text.add("D", *(value(rng, 1, 0.05) for _ in range(count)))
+    kind = rng.choice(["I", "I", "L"])
+    for i in range(1, n):
+        text.add("J", kind, n + i - 2 if i > 1 else 0, i)
+        other = rng.randrange(i)
+        for column in range(columns[i]):                    # all columns with one of another table
+            text.add("C", other, 0, "=", i, column)
+        if i == 1:
+            for column in range(1, columns[0]):             # and all of table 0
+                text.add("C", 0, column, "=", 1, 0)
+    for _ in range(rng.choice([0, 0, 1, 1, 2, 4, 8])):      # most of these say what follows
+        a, b = rng.sample(range(n), 2)
+        if rng.random() < 0.2:
+            text.add("K", a, 0, "<=", 1)
+        else:
+            text.add("C", a, rng.randrange(columns[a]), "=", b, rng.randrange(columns[b]))
+    if rng.random() < 0.5:
+        add_order(rng, text, n)
+    return text
+
+
+def again(rng, line):
+    """The same line once more, a C line sometimes the other way round, with its operator turned."""
+    if line[0] == "K" or rng.random() < 0.5:
+        return list(line)
+    turned = line[3].translate(str.maketrans("<>", "><")) if line[3] != "<>" else "<>"
+    return ["C", line[4], line[5], turned, line[1], line[2]]
 
 
 def value(rng, highest, blanks):
@@ -123,9 +181,11 @@ def make_key_column(rng, text, column, rows):
         line[1 + column] = str(number)
 
 
-def condition(rng, columns, a, b):
+def condition(rng, columns, stamps, links, a, b):
     if rng.random() < 0.3:
         a, b = b, a
+    if rng.random() < links:
+        return ["C", a, stamps[a], "=", b, stamps[b]]
     op = rng.choice(OPERATORS + ["=", "=", "=", "="])
     return ["C", a, rng.randrange(columns[a]), op, b, rng.randrange(columns[b])]
 

@@ -16,6 +16,7 @@ import reports                                                          # noqa: 
 import translate                                                        # noqa: E402
 
 LIMIT = 256
+CONDITIONS = 64         # in all, of the lines and derived: question 13
 SECONDS = 50            # where no count is given, no new report is begun after these
 LETTERS = re.compile("S+U*M*B*Z?R*")            # the lines of an answer's print, by their letters
 # Why an SQL system does not take a key column, by the words of SQLite and of PostgreSQL.
@@ -115,6 +116,7 @@ class Check:
         number = turned_down(out)
         if number is None:
             self.count[who + ": rows"] += 1
+            self.hold_sets(text, out, who)
             if b"\nZ\n" in out:
                 self.count[who + ": with blanking steps"] += 1
             if b"\nM\tO\t" in out:
@@ -132,6 +134,18 @@ class Check:
             self.count[who + ": E 11"] += 1
         else:
             self.difference(who, text, SQL=rows, printed=out)
+
+    def hold_sets(self, text, out, who):
+        """The S lines must be those of the translation, which works out derived conditions by itself."""
+        query = translate.Query(text)
+        if query.derivation[0]:
+            self.count[who + ": with a derived condition"] += 1
+        if any(int(number) >= len(query.conditions) for line in lines_of(out, b"M").splitlines()
+               for number in line.split(b"\t")[5:]):
+            self.count[who + ": with a derived condition at a pair"] += 1
+        sets = query.set_lines().encode("ascii")
+        if lines_of(out, b"S") != sets:
+            self.difference(who + ", the S lines", text, translation=sets, printed=out)
 
     def hold_plan(self, text, out, rows, who):
         query = translate.Query(text)
@@ -172,11 +186,17 @@ class Check:
         """Whether there were key columns that SQL takes, and some for each reason not to."""
         return all(self.count["key columns %s in SQL: %s" % (whose, why)] for why in [*REASONS, "taken"])
 
-    def hold_refused(self, text, out, who):
-        """A text that question 12 turns down."""
-        self.count[who + ": E 12"] += 1
-        if out != b"E\t12\n":
-            self.difference(who, text, SQL=b"a key column is not taken", printed=out)
+    def hold_refused(self, text, out, who, number=12):
+        """A text that question 12 or 13 turns down."""
+        self.count[who + ": E %d" % number] += 1
+        if out != b"E\t%d\n" % number:
+            why = {12: b"a key column is not taken", 13: b"there are too many conditions"}[number]
+            self.difference(who, text, SQL=why, printed=out)
+
+    @staticmethod
+    def too_many_conditions(text):
+        """Question 13."""
+        return len(translate.Query(text).every_condition) > CONDITIONS
 
     def random_report(self, text, n, simplified, wrong, rng, orders):
         self.count["random reports"] += 1
@@ -188,6 +208,10 @@ class Check:
             for program in ("report", "direct"):
                 self.hold_refused(wrong, self.run(program, wrong), program)
         if not self.hold_key_columns(text, True, CHANCE):
+            return
+        if self.too_many_conditions(text):
+            for program in ("report", "direct"):
+                self.hold_refused(text, self.run(program, text), program, 13)
             return
         rows, most, tallies = self.sql(text)
         if rows:
@@ -217,6 +241,12 @@ class Check:
                 self.hold_refused(text, stored[program], "stored " + program)
                 self.hold_refused(text, self.run(program, text), program)
         if number == 12 or not taken:
+            return
+        if self.too_many_conditions(text):
+            self.count["files turned down by question 13"] += 1
+            for program in ("report", "direct"):
+                self.hold_refused(text, stored[program], "stored " + program, 13)
+                self.hold_refused(text, self.run(program, text), program, 13)
             return
         self.count["files"] += 1
         rows, most, tallies = self.sql(text)
@@ -279,6 +309,8 @@ def main(name, about, system, ask, count, refuses, run_plan=None):
             print("%7d %s" % (check.count[counted], counted))
     print("%d differences in %.0f seconds" % (check.count["differences"], time.monotonic() - start))
     enough = (check.count["direct: rows"] and check.count["report: rows"]
+              and check.count["report: with a derived condition"]
+              and check.count["report: with a derived condition at a pair"]
               and check.count["conditions counted by SQL: unknown of some rows"]
               and check.has_key_columns(FILES)
               and (check.count["random reports"] < ENOUGH or check.has_key_columns(CHANCE)))

@@ -2,10 +2,12 @@
 
 One to eight tables, some of them empty, a third of them with a key column, blanks
 in the cells, all operators, C lines between the sides, C lines with both tables on
-one side, K lines, lines that stand twice. Conditions name any table under their
-join; one report of five is made so that its tree is simplified. Of some reports
-there is another text, with a key column that question 12 turns down. The same seed
-gives the same texts.
+one side, K lines, lines that stand twice, in one join or in two, and lines that stand
+there once more read from the other side. In most reports many conditions are about the
+tables' first columns, so that chains of `=` lines link three columns and more; question
+13 turns few of them down. Conditions name any table under their join; one report of
+five is made so that its tree is simplified. Of some reports there is another text,
+with a key column that question 12 turns down. The same seed gives the same texts.
 """
 import itertools
 import random
@@ -102,14 +104,16 @@ def report(rng):
     outer = rng.choice([0.2, 0.6, 0.6, 0.9])        # the share of outer joins
     more = rng.choice([0, 0.3, 0.6])                # how many conditions beside the first
     equal = rng.choice([2, 6, 30])                  # how much = is favoured
+    shared = rng.choice([0, 0.6, 0.6, 1])           # how many of the columns are a table's first
     careful = rng.random() < 0.2                    # the tree must be simplified
     simplified = True
     left_conditions = 32
     under = [{t} for t in range(n)]
     right_of_outer = [set() for _ in range(n)]      # per node: the tables right of an outer join in it
+    links = []                                      # the C lines of the joins before
 
     def side(table):
-        return [table, rng.randrange(columns[table])]
+        return [table, 0 if rng.random() < shared else rng.randrange(columns[table])]
 
     def operator():
         return rng.choice(OPERATORS + ["="] * equal)
@@ -128,8 +132,11 @@ def report(rng):
         # each join to come needs one
         while rng.random() < more and left_conditions > n - 2 - i:
             a, b = (rng.choice(sorted(lefts | rights)) for _ in range(2))
-            if rng.random() < 0.1:
-                own.append(list(rng.choice(own)))
+            if rng.random() < 0.2:
+                again = list(rng.choice(own + [line for line in links if {line[1], line[4]} <= lefts | rights]))
+                if again[0] == "C" and rng.random() < 0.5:
+                    again[1:] = again[4:] + again[3:4] + again[1:3]
+                own.append(again)
             elif a == b or rng.random() < 0.3:
                 own.append(["K"] + side(a) + [rng.choice(OPERATORS), value()])
             else:
@@ -137,6 +144,7 @@ def report(rng):
             left_conditions -= 1
         named = {line[1] for line in own} | {line[4] for line in own if line[0] == "C"}
         simplified = simplified and not named & weak
+        links += [line for line in own if line[0] == "C"]
         rng.shuffle(own)
         lines.append(["J", kind, left, right])
         lines += own

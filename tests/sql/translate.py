@@ -4,8 +4,8 @@
     translate.py < text             the tables and one SELECT, for any SQL system
     translate.py --steps < text     the same, one table for each join
 
-It is meant for texts that questions 2 to 7 and 12 do not turn down and asks none of
-them. The SQL is plain: SQLite and PostgreSQL both take it. Question 12 is left to
+It is meant for texts that questions 2 to 7, 12 and 13 do not turn down and asks none
+of them. The SQL is plain: SQLite and PostgreSQL both take it. Question 12 is left to
 the SQL system: a key column is UNIQUE and must not be NULL, so the tables of a text
 that question 12 turns down cannot be made or filled.
 
@@ -17,7 +17,11 @@ INNER JOIN or LEFT JOIN, in parentheses, ON all its conditions joined by AND.
 SQL's own rules do the rest: a comparison with NULL is unknown, and only rows
 whose condition is true belong together. By the same rules a condition is true,
 false or unknown of each row of its two tables' product, which make_tallies counts.
+
+SQL joins by the lines alone. The sets of a print, its plan and its U lines have derived
+conditions too, document 02's item 6, which are worked out here.
 """
+import functools
 import sys
 
 
@@ -26,8 +30,10 @@ class Query:
         self.tables = []            # (count of columns, rows as lists of fields)
         self.key_columns = []       # for each table the number of its key column, or None
         self.joins = []             # (kind, left, right, conditions as SQL)
-        self.conditions = []        # all conditions as SQL, by their numbers
-        self.named = []             # the SQL tables that each condition names
+        self.conditions = []        # the C and K lines as SQL, by their numbers
+        self.named = []             # the tables that each of them names
+        self.links = []             # of each that is an `=` C line its two columns, else None
+        self.of_joins = []          # for each join the numbers of its conditions
         self.pairs = []             # (left, right)
         for line in text.decode("ascii").splitlines():
             letter, *fields = line.split("\t")
@@ -38,13 +44,16 @@ class Query:
                 self.tables[-1][1].append(fields)
             elif letter == "J":
                 self.joins.append((fields[0], int(fields[1]), int(fields[2]), []))
+                self.of_joins.append([])
             elif letter == "C":
                 table, column, operator, other_table, other_column = fields
                 self.condition("t%s_c%s %s t%s_c%s" % (
-                    table, column, operator, other_table, other_column), table, other_table)
+                    table, column, operator, other_table, other_column), int(table), int(other_table))
+                if operator == "=":
+                    self.links[-1] = frozenset([(int(table), int(column)), (int(other_table), int(other_column))])
             elif letter == "K":
                 table, column, operator, constant = fields
-                self.condition("t%s_c%s %s %s" % (table, column, operator, constant), table)
+                self.condition("t%s_c%s %s %s" % (table, column, operator, constant), int(table))
             elif letter == "P":
                 self.pairs.append((int(fields[0]), int(fields[1])))
             else:
@@ -52,8 +61,58 @@ class Query:
 
     def condition(self, sql, *tables):
         self.joins[-1][3].append(sql)
+        self.of_joins[-1].append(len(self.conditions))
         self.conditions.append(sql)
-        self.named.append(["t" + table for table in tables])
+        self.named.append(tables)
+        self.links.append(None)
+
+    # Sets and derived conditions.
+
+    def set_rule(self):
+        """Each table's set of condition numbers, without what follows from it."""
+        under = [{t} for t in range(len(self.tables))]
+        sets = [set() for _ in self.tables]
+        for (kind, left, right, _), own in zip(self.joins, self.of_joins):
+            gain = set(own).union(*(sets[t] for number in own for t in self.named[number]))
+            for t in under[right] | (under[left] if kind == "I" else set()):
+                sets[t] |= gain
+            under.append(under[left] | under[right])
+        return sets
+
+    def linked(self, numbers):
+        """The pairs of columns of different tables that a chain of these conditions links."""
+        links = {self.links[number] for number in numbers} - {None}
+        pairs = set()
+        for one in set().union(*links):
+            found, new = set(), {one}
+            while new:
+                found |= new
+                new = set().union(*(link for link in links if link & new)) - found
+            pairs |= {frozenset([one, other]) for other in found if other[0] != one[0]}
+        return pairs
+
+    @functools.cached_property
+    def derivation(self):
+        """The two columns of each derived condition that no line states, by their numbers, and
+        each table's set with all that follows from it."""
+        sets = self.set_rule()
+        follows = [self.linked(numbers) for numbers in sets]
+        stated = {link: self.links.index(link) for link in self.links if link}      # the lowest number
+        derived = sorted(sorted(link) for link in set().union(*follows) - set(stated))
+        stated.update((frozenset(link), len(self.links) + i) for i, link in enumerate(derived))
+        return derived, [own | {stated[link] for link in links} for own, links in zip(sets, follows)]
+
+    @functools.cached_property
+    def every_condition(self):
+        """All conditions by their numbers, those of the lines and the derived ones: each as SQL,
+        with the tables that it names."""
+        return list(zip(self.conditions, self.named)) + [
+            ("t%d_c%d = t%d_c%d" % (*one, *other), (one[0], other[0])) for one, other in self.derivation[0]]
+
+    def set_lines(self):
+        """What the S lines of a print say."""
+        return "".join("\t".join(["S", str(t)] + [str(number) for number in sorted(own)]) + "\n"
+                       for t, own in enumerate(self.derivation[1]))
 
     def columns(self, t):
         return ["t%d_row" % t] + ["t%d_c%d" % (t, c) for c in range(self.tables[t][0])]
@@ -123,7 +182,7 @@ class Query:
     # A plan, as the M, B and Z lines of a print say it.
 
     def all_of(self, numbers):
-        return " AND ".join(self.conditions[int(number)] for number in numbers)
+        return " AND ".join(self.every_condition[int(number)][0] for number in numbers)
 
     def make_plan(self, lines):
         """Statements that run the plan: one table m0, m1, .. for each M line, b0, b1, .. for
@@ -158,12 +217,13 @@ class Query:
         return statements, last
 
     def make_tallies(self):
-        """For each condition the statement that gives its number and how often it is true,
-        false and unknown: over all pairs of rows of its two tables, or all rows of its one."""
+        """For each condition, a derived one too, the statement that gives its number and how often
+        it is true, false and unknown: over all pairs of rows of its two tables, or all rows of its
+        one."""
         return ["SELECT %d, COUNT(CASE WHEN %s THEN 1 END), COUNT(CASE WHEN NOT (%s) THEN 1 END), "
                 "COUNT(CASE WHEN (%s) IS NULL THEN 1 END) FROM %s" % (
-                    number, sql, sql, sql, " CROSS JOIN ".join(tables))
-                for number, (sql, tables) in enumerate(zip(self.conditions, self.named))]
+                    number, sql, sql, sql, " CROSS JOIN ".join("t%d" % t for t in tables))
+                for number, (sql, tables) in enumerate(self.every_condition)]
 
     def best_match(self, source):
         """The rows of a table that are not wholly blank and that no other row dominates, once each."""

@@ -6,10 +6,12 @@ ghost use mathlib.Core.Path.{_≡_};
 ghost use lib.Dec.{T};
 ghost use Rattle.vocabulary.specs.inner.Stored.{queryIn};
 ghost use Rattle.vocabulary.specs.inner.Counted.{Counted};
+ghost use Rattle.links.specs.inner.LinksWithin.{LinksWithin};
 ghost use Rattle.plan.specs.Questions.{question5};
 ghost use Rattle.prepare.specs.inner.Prepared.{turnedAway, QueryPlanned};
 
-// The number of the question that said no, or 0 where the query is to be run; each table's set, the plan, and the query.
+// The number of the question that said no, or 0 where the query is to be run; each table's set, the plan, and the query with its derived
+// conditions.
 pub struct Prepared {
     pub number: u8,
     pub sets: [u64; TABLES],
@@ -29,15 +31,15 @@ pub fn turned_away(q: StoredQuery, number: u8) -> Prepared
     }
 }
 
-// Question 9 of a query that passed those before, its sets and its plan.
+// Question 9 of a query that passed those before, with its derived conditions; its sets and its plan.
 pub fn plan_query(q: StoredQuery) -> Prepared
-    requires { ⌜ Counted q × T (question5 (queryIn q)) ⌝ }
+    requires { ⌜ Counted q × T (question5 (queryIn q)) × LinksWithin (queryIn q) ⌝ }
     ensures { λ r. ⌜ QueryPlanned q r ⌝ }
 {
     if !questions::built::order_built(q) {
         return turned_away(q, 9);
     }
-    let sets = plan::blanking::blanking_sets(q);
+    let sets = plan::blanking::closed_sets(q);
     let list = plan::steps::steps_of(q, sets);
     Prepared {
         number: 0,

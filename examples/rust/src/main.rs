@@ -7,8 +7,9 @@
 //!     rt staticlib capi
 //!     cargo run --release --manifest-path examples/rust/Cargo.toml -- samples/week.in
 //!
-//! Both are written as in the print: U and, behind a tab each, a condition and how often it is true, false and unknown;
-//! R and, for each table, a row number or - behind a tab.
+//! Both are written as in the print: U and, behind a tab each, a condition and how often it is true, false and unknown,
+//! first for the C and K lines and then for the derived conditions; R and, for each table, a row number or - behind a
+//! tab.
 //!
 //! Exit status 0: an answer was printed. 1: the text was refused, and E with the number was printed. 2: the arguments
 //! are wrong, the file could not be read, or the print could not be written; one line on standard error says which.

@@ -4,10 +4,12 @@
 //! It shares nothing with the proved engine but the documents, so that the two can be compared, and is what the
 //! proved engine's speed is measured against. All memory is lent by the caller.
 
+pub mod chains;
 mod execute;
 pub mod generate;
 pub mod key_columns;
 pub mod lent;
+mod links;
 mod plan;
 mod print;
 mod tally;
@@ -17,15 +19,17 @@ pub use print::{print_direct, print_report, write_direct, write_report};
 pub use tally::Tally;
 
 use execute::Executor;
+use plan::Tree;
 use tally::tallies;
 use text::Query;
 
-// The limits of question 3, 6 and 2.
+// The limits of questions 3, 6, 13 and 2: the conditions that a text may write, and all with those that are derived.
 pub const TABLES: usize = 8;
 pub const COLUMNS: usize = 8;
 pub const ROWS: usize = 256;
 pub const CELLS: usize = 4096;
-pub const CONDITIONS: usize = 32;
+pub const WRITTEN: usize = 32;
+pub const CONDITIONS: usize = 64;
 pub const TEXT: usize = 16384;
 
 // The least sizes of the lent buffers, question 1. The cell buffer has at least CELLS numbers.
@@ -63,7 +67,8 @@ pub struct Rows {
     pub tables: usize,
     /// Each table's blanking set; all empty for the direct reading.
     pub sets: [u64; TABLES],
-    /// The count of conditions, and how often each is true, false and unknown; all 0 for the direct reading.
+    /// The count of conditions, written and derived, and how often each is true, false and unknown; all 0 for the
+    /// direct reading.
     pub conditions: usize,
     pub tallies: [Tally; CONDITIONS],
 }
@@ -101,11 +106,19 @@ fn short(cells: &[i32], work: &[u16], result: &[u16]) -> bool {
     work.len() < WORK || result.len() < RESULT || cells.len() < CELLS
 }
 
-fn run_plan(text: &[u8], cells: &mut [i32], work: &mut [u16], result: &mut [u16], steps: &mut [Step]) -> Answer {
-    let query = Query::read(text, cells)?;
+/// The query with its derived conditions, its tree and the sets of the set rule: questions 2 to 7, 12 and 13.
+fn accept(text: &[u8], cells: &mut [i32]) -> Result<(Query, Tree, [u64; TABLES]), u8> {
+    let mut query = Query::read(text, cells)?;
     let tree = query.join_tree()?;
-    let order = query.joining_order(&tree)?;
     let sets = query.blanking_sets(&tree);
+    query.derive(&sets)?;
+    Ok((query, tree, sets))
+}
+
+fn run_plan(text: &[u8], cells: &mut [i32], work: &mut [u16], result: &mut [u16], steps: &mut [Step]) -> Answer {
+    let (query, tree, sets) = accept(text, cells)?;
+    let order = query.joining_order(&tree)?;
+    let sets = sets.map(|set| query.closed(set));
     let length = query.plan(&order, &sets, steps);
 
     let mut executor = Executor::new(&query, &order, cells, work);
@@ -126,8 +139,7 @@ fn run_plan(text: &[u8], cells: &mut [i32], work: &mut [u16], result: &mut [u16]
 }
 
 fn run_tree(text: &[u8], cells: &mut [i32], work: &mut [u16], result: &mut [u16]) -> Answer {
-    let query = Query::read(text, cells)?;
-    let tree = query.join_tree()?;
+    let (query, tree, _) = accept(text, cells)?;
     let mut executor = Executor::new(&query, &tree, cells, work);
     for (node, join) in (query.tables.len()..).zip(query.joins.as_slice()) {
         let (first, second) = join.sides;

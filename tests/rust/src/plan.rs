@@ -1,7 +1,7 @@
 //! The join tree, the blanking sets and the plan: questions 5 to 7 and 9.
 
 use crate::text::{Condition, Operand, Query};
-use crate::{BEST_MATCH, BLANKING, CONDITIONS, INNER, OUTER, PRODUCT, STEPS, Step, TABLES, bits};
+use crate::{BEST_MATCH, BLANKING, INNER, OUTER, PRODUCT, STEPS, Step, TABLES, WRITTEN, bits};
 
 /// For each node of a tree the tables under it, bit t for table t.
 pub struct Tree {
@@ -73,7 +73,7 @@ impl Query {
     /// Question 6.
     fn conditions_fit(&self, tree: &Tree) -> bool {
         let tables = self.tables.as_slice();
-        self.conditions.len() <= CONDITIONS
+        self.conditions.len() <= WRITTEN
             && (tables.len()..).zip(self.joins.as_slice()).all(|(node, join)| {
                 let exists = |table: usize, column: usize| {
                     table < tables.len() && tree.under[node] & 1 << table != 0 && column < tables[table].columns
@@ -91,6 +91,7 @@ impl Query {
             })
     }
 
+    /// The sets by the set rule, without what follows from them.
     pub fn blanking_sets(&self, tree: &Tree) -> [u64; TABLES] {
         let mut sets = [0; TABLES];
         for join in self.joins.as_slice() {
@@ -141,7 +142,7 @@ impl Query {
             length += 1;
         }
         for table in 0..self.tables.len() {
-            let conditions = sets[table] & !applied[table];
+            let conditions = sets[table] & !self.closed(applied[table]);
             if conditions != 0 {
                 add(Step { kind: BLANKING, first: table as u16, conditions, ..Step::default() });
                 length += 1;

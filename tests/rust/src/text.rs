@@ -13,7 +13,7 @@ impl<T: Copy + Default, const N: usize> Bounded<T, N> {
         Bounded { items: [T::default(); N], len: 0 }
     }
 
-    fn push(&mut self, item: T) {
+    pub fn push(&mut self, item: T) {
         if let Some(place) = self.items.get_mut(self.len) {
             *place = item;
         }
@@ -98,7 +98,11 @@ pub struct Join {
 pub struct Query {
     pub tables: Bounded<Table, TABLES>,
     pub joins: Bounded<Join, { TABLES - 1 }>,
+    /// Those that the text writes, and behind them the derived ones.
     pub conditions: Bounded<Condition, CONDITIONS>,
+    /// The equalities of columns that no lower-numbered condition states, bit i for condition number i; found with the
+    /// derived ones, and none where nothing can follow.
+    pub lowest: u64,
     pub order: Bounded<(u16, u16), { TABLES - 1 }>,
     /// Cells written in all, and whether each row has its table's width.
     cells: usize,
@@ -137,6 +141,7 @@ impl Query {
             tables: Bounded::new(),
             joins: Bounded::new(),
             conditions: Bounded::new(),
+            lowest: 0,
             order: Bounded::new(),
             cells: 0,
             even: true,

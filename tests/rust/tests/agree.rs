@@ -1,15 +1,17 @@
 //! Generated texts: the plan and the direct reading hand over the same rows (demand 3), every refusal occurs, the lent
-//! memory ends as document 01 says, the counts of each condition are those of all pairs looked at one by one, and
-//! question 12 says what all pairs of a key column's cells say.
+//! memory ends as document 01 says, the counts of each condition are those of all pairs looked at one by one, question
+//! 12 says what all pairs of a key column's cells say, and sets, derived conditions and question 13 are as worked out
+//! apart.
 
+use hashjoin::chains::chains;
 use hashjoin::generate::{each_fixed_text, each_random_text};
 use hashjoin::key_columns::{KeyColumn, key_columns};
 use hashjoin::lent::{LEAST, Lent, MARK};
-use hashjoin::{Answer, BEST_MATCH, BLANKING, ROWS, Rows, STEPS, Step, TABLES, Tally};
+use hashjoin::{Answer, BEST_MATCH, BLANKING, CONDITIONS, ROWS, Rows, STEPS, Step, TABLES, Tally};
 
 const SEED: u64 = 1;
 const COUNT: usize = 40_000;
-const QUESTIONS: usize = 12;
+const QUESTIONS: usize = 13;
 
 #[test]
 fn report_and_direct_agree() {
@@ -19,6 +21,7 @@ fn report_and_direct_agree() {
     let (mut only_report, mut only_direct, mut most_rows, mut most_steps) = (0, 0, 0, 0);
     let (mut texts, mut conditions, mut highest) = (0, 0, Tally::default());
     let (mut keyed, mut most_cells) = (0, 0);
+    let mut linked = Linked::default();
     let mut check = |text: &[u8]| {
         texts += 1;
         lent.iter_mut().for_each(|lent| lent.result.fill(MARK));
@@ -39,6 +42,10 @@ fn report_and_direct_agree() {
             highest.holds = highest.holds.max(tally.holds);
             highest.fails = highest.fails.max(tally.fails);
             highest.unknown = highest.unknown.max(tally.unknown);
+        }
+        if let Ok(_) | Err(9 | 11 | 13) = planned {
+            linked.check(text, &planned, &of_report.steps);
+            assert_eq!(planned == Err(13), read == Err(13), "{}", shown(text));
         }
         if let Ok(_) | Err(12) = read {
             let columns = key_columns(text);
@@ -74,15 +81,59 @@ fn report_and_direct_agree() {
     println!("steps by kind {:?}; most steps {most_steps}, most rows {most_rows}", &kinds[1..]);
     println!("conditions counted {conditions}; most of each {highest:?}");
     println!("key columns of answered texts {keyed}; most cells of one {most_cells}");
+    println!("{linked:?}");
     for (question, &count) in refused[0].iter().enumerate() {
-        // Number 8 is not used.
+        // Numbers 8 and 10 are not used.
         assert_eq!(count == 0, [1, 8, 10].contains(&question), "question {question}");
     }
     assert!(only_report > 0 && only_direct > 0 && most_rows == ROWS && most_steps == STEPS);
     assert!(keyed > texts / 8 && most_cells == ROWS);
     assert!(kinds.iter().all(|&count| count > 0));
+    assert!(linked.full > 0 && linked.one_more > 0);
+    assert!([linked.derived, linked.several, linked.pairs].iter().all(|&count| count > texts / 50));
+    assert!(linked.stated > texts / 200);
     let pairs = (ROWS * ROWS) as u32;
     assert_eq!(highest, Tally { holds: pairs, fails: pairs, unknown: pairs });
+}
+
+/// What texts have of derived conditions.
+#[derive(Debug, Default)]
+struct Linked {
+    /// Answers with a derived condition that no line states; in which a line joined a set; and in which tables have
+    /// different ones.
+    derived: usize,
+    stated: usize,
+    several: usize,
+    /// Pairs that are joined by derived conditions alone, which no line states.
+    pairs: usize,
+    /// Answers with as many conditions as there can be, and refusals of one more.
+    full: usize,
+    one_more: usize,
+}
+
+impl Linked {
+    /// A text that is asked 13: its sets and conditions are those that the lines say.
+    fn check(&mut self, text: &[u8], answer: &Answer, steps: &[Step]) {
+        let chains = chains(text);
+        assert_eq!(*answer == Err(13), chains.conditions() > CONDITIONS, "{}", shown(text));
+        self.one_more += usize::from(chains.conditions() == CONDITIONS + 1);
+        let Ok(rows) = answer else { return };
+        assert_eq!(rows.conditions, chains.conditions(), "{}", shown(text));
+        let bits = chains.sets.iter().map(|set| set.iter().fold(0, |bits, number| bits | 1 << number));
+        assert!(bits.eq(rows.sets[..rows.tables].iter().copied()), "{}", shown(text));
+        let blanked = steps.iter().filter(|step| step.kind == BLANKING);
+        let blanked = blanked.map(|step| (usize::from(step.first), step.conditions));
+        let missing = chains.missing(steps).into_iter().enumerate().filter(|(_, missing)| !missing.is_empty());
+        let missing = missing.map(|(table, set)| (table, set.iter().fold(0, |bits, number| bits | 1 << number)));
+        assert!(blanked.eq(missing), "{}", shown(text));
+        let [stated, derived] = chains.joined();
+        self.derived += usize::from(derived);
+        self.stated += usize::from(stated);
+        self.several += usize::from(chains.of_several_sets());
+        self.full += usize::from(rows.conditions == CONDITIONS);
+        let alone = |step: &&Step| step.rows > 0 && step.conditions >> chains.written != 0;
+        self.pairs += steps.iter().filter(alone).filter(|step| step.conditions % (1 << chains.written) == 0).count();
+    }
 }
 
 /// The counts of an answered text, which must be those of its lines, and nothing behind them.
@@ -93,7 +144,8 @@ fn check_tallies<'a>(rows: &'a Rows, text: &[u8]) -> &'a [Tally] {
     tallies
 }
 
-/// Each C and K line of an answered text, put to every pair of rows, or every row.
+/// Each C and K line of an answered text, and behind them each derived condition, put to every pair of rows, or every
+/// row.
 fn counted(text: &[u8]) -> Vec<Tally> {
     // By table, row and column; a blank cell is None.
     let mut tables: Vec<Vec<Vec<Option<i32>>>> = vec![];
@@ -105,7 +157,7 @@ fn counted(text: &[u8]) -> Vec<Tally> {
             let [table, column] = [at, at + 1].map(|at| fields[at].parse::<usize>().unwrap());
             tables[table].iter().map(|row| row[column]).collect()
         };
-        let second = match letter {
+        let against = match letter {
             "T" => {
                 tables.push(vec![]);
                 continue;
@@ -118,27 +170,36 @@ fn counted(text: &[u8]) -> Vec<Tally> {
             "K" => vec![fields[3].parse().ok()],
             _ => continue,
         };
-        let mut tally = Tally::default();
-        for &first in &column(&tables, 0) {
-            for &second in &second {
-                let (Some(first), Some(second)) = (first, second) else {
-                    tally.unknown += 1;
-                    continue;
-                };
-                let holds = match fields[2] {
-                    "<" => first < second,
-                    "=" => first == second,
-                    "<=" => first <= second,
-                    ">" => first > second,
-                    "<>" => first != second,
-                    _ => first >= second,
-                };
-                *if holds { &mut tally.holds } else { &mut tally.fails } += 1;
-            }
-        }
-        tallies.push(tally);
+        tallies.push(tally(&column(&tables, 0), fields[2], &against));
     }
+    let column = |(table, column): (usize, usize)| -> Vec<Option<i32>> {
+        tables[table].iter().map(|row: &Vec<_>| row[column]).collect()
+    };
+    tallies.extend(chains(text).derived.iter().map(|&(one, other)| tally(&column(one), "=", &column(other))));
     tallies
+}
+
+/// How often the operator is true, false and unknown of a first and a second cell.
+fn tally(first: &[Option<i32>], operator: &str, second: &[Option<i32>]) -> Tally {
+    let mut tally = Tally::default();
+    for first in first {
+        for second in second {
+            let (Some(first), Some(second)) = (first, second) else {
+                tally.unknown += 1;
+                continue;
+            };
+            let holds = match operator {
+                "<" => first < second,
+                "=" => first == second,
+                "<=" => first <= second,
+                ">" => first > second,
+                "<>" => first != second,
+                _ => first >= second,
+            };
+            *if holds { &mut tally.holds } else { &mut tally.fails } += 1;
+        }
+    }
+    tally
 }
 
 /// A plan and then zero steps; after a refusal zero steps only. Gives the plan's length.

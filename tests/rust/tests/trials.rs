@@ -1,26 +1,10 @@
-//! The trials of document 01 and of document 02's items 1, 2 and 4, worked out by hand. In these texts a bar stands for a
-//! tab and a space ends a line.
+//! The trials of document 01 and of document 02's items 1, 2 and 4, worked out by hand.
+
+mod printed;
 
 use hashjoin::lent::{LEAST, Lent, MARK};
 use hashjoin::{NO_ROW, Step, Tally, print_direct, print_report};
-
-fn text(lines: &str) -> Vec<u8> {
-    lines.split_whitespace().flat_map(|line| [&line.replace('|', "\t"), "\n"].concat().into_bytes()).collect()
-}
-
-#[track_caller]
-fn prints(input: &str, expected_report: &str, expected_direct: &str) {
-    let input = text(input);
-    let shown = |print: Vec<u8>| String::from_utf8(print).unwrap().replace('\t', "|").replace('\n', " ");
-    assert_eq!(shown(print_report(&input)).trim(), expected_report, "report");
-    assert_eq!(shown(print_direct(&input)).trim(), expected_direct, "direct");
-}
-
-#[track_caller]
-fn refused(input: &str, question: u8) {
-    let refusal = format!("E|{question}");
-    prints(input, &refusal, &refusal);
-}
+use printed::{linked_columns, prints, refused, text};
 
 const TABLES: &str = "T|2 D|10|1 D|11|2 T|2 D|10|7 D|11|8 T|1 D|7";
 const TABLES_0_EMPTY: &str = "T|2 T|2 D|10|7 D|11|8 T|1 D|7";
@@ -127,34 +111,34 @@ fn a_tree_that_is_simplified() {
     let tables = "T|1 D|1 T|1 D|1 T|1 D|1";
     prints(
         &[tables, "J|L|0|1 C|0|0|=|1|0 J|I|3|2 C|0|0|=|2|0"].join(" "),
-        "S|0|1 S|1|0|1 S|2|1 U|0|1|0|0 U|1|1|0|0 M|L|0|1|1|0 M|I|3|2|1|1 R|0|0|0",
+        "S|0|1 S|1|0|1|2 S|2|1 U|0|1|0|0 U|1|1|0|0 U|2|1|0|0 M|L|0|1|1|0 M|I|3|2|1|1 R|0|0|0",
         "R|0|0|0",
     );
     // The last outer join blanks its right side alone: it gives the left side nothing.
     prints(
         "T|1 D|1 D|2 T|1 D|1 T|1 D|1 J|L|0|1 C|0|0|=|1|0 J|L|3|2 C|1|0|=|2|0",
-        "S|0 S|1|0 S|2|0|1 U|0|1|1|0 U|1|1|0|0 M|L|0|1|2|0 M|L|3|2|2|1 R|0|0|0 R|1|-|-",
+        "S|0 S|1|0 S|2|0|1|2 U|0|1|1|0 U|1|1|0|0 U|2|1|1|0 M|L|0|1|2|0 M|L|3|2|2|1|2 R|0|0|0 R|1|-|-",
         "R|0|0|0 R|1|-|-",
     );
 }
 
 #[test]
 fn a_tree_that_is_not_simplified() {
-    let sets = "S|0|0|1 S|1|0|1 S|2|0|1";
+    let sets = "S|0|0|1|2 S|1|0|1|2 S|2|0|1|2";
     let joins = "J|L|0|1 C|0|0|=|1|0 J|I|3|2 C|1|0|=|2|0";
     prints(
         &["T|1 D|1 T|1 D|1 T|1 D|1", joins].join(" "),
-        &[sets, "U|0|1|0|0 U|1|1|0|0 M|I|0|1|1|0 M|I|3|2|1|1 R|0|0|0"].join(" "),
+        &[sets, "U|0|1|0|0 U|1|1|0|0 U|2|1|0|0 M|I|0|1|1|0 M|I|3|2|1|1|2 R|0|0|0"].join(" "),
         "R|0|0|0",
     );
     // The second row of table 0 is kept by the first join and dropped by the second.
     let tables = "T|1 D|1 D|2 T|1 D|1 T|1 D|1 D|3";
     for (order, steps) in [
-        ("", "M|I|0|1|1|0 M|I|3|2|1|1"),
-        ("P|1|2 P|3|0", "M|I|1|2|1|1 M|I|3|0|1|0"),
-        ("P|0|2 P|3|1", "M|O|0|2|4 M|I|3|1|1|0|1"),
+        ("", "M|I|0|1|1|0 M|I|3|2|1|1|2"),
+        ("P|1|2 P|3|0", "M|I|1|2|1|1 M|I|3|0|1|0|2"),
+        ("P|0|2 P|3|1", "M|I|0|2|1|2 M|I|3|1|1|0|1"),
     ] {
-        let print = [sets, "U|0|1|1|0 U|1|1|1|0", steps, "R|0|0|0"].join(" ");
+        let print = [sets, "U|0|1|1|0 U|1|1|1|0 U|2|1|3|0", steps, "R|0|0|0"].join(" ");
         prints(&[tables, joins, order].join(" "), &print, "R|0|0|0");
     }
 }
@@ -164,12 +148,14 @@ fn a_tree_that_is_not_simplified() {
 fn tables_named_by_other_lines() {
     prints(
         "T|1 D|2 T|1 D|1 D|2 T|1 D|2 J|L|0|1 C|0|0|=|1|0 J|L|2|3 C|2|0|=|0|0 K|1|0|=|1 P|2|1 P|3|0",
-        "S|0|0|1|2 S|1|0|1|2 S|2 U|0|1|1|0 U|1|1|0|0 U|2|1|1|0 M|O|2|1|2 M|L|3|0|2|0|1 B|0|2 B|1|0|1|2 Z R|-|-|0",
+        "S|0|0|1|2|3 S|1|0|1|2|3 S|2 U|0|1|1|0 U|1|1|0|0 U|2|1|1|0 U|3|1|1|0 M|L|2|1|1|3 M|L|3|0|1|0|1 \
+         B|0|2 B|1|0|1|2 Z R|-|-|0",
         "R|-|-|0",
     );
     prints(
         "T|1 D|2 T|1 D|1 T|1 D|2 J|L|2|1 C|2|0|=|1|0 J|L|0|3 C|0|0|=|2|0 C|1|0|<>|2|0 P|1|0 P|3|2",
-        "S|0 S|1|0|1|2 S|2|0|1|2 U|0|0|1|0 U|1|1|0|0 U|2|1|0|0 M|O|1|0|1 M|L|3|2|1|0|1|2 B|1|0|1|2 Z R|0|-|-",
+        "S|0 S|1|0|1|2|3 S|2|0|1|2|3 U|0|0|1|0 U|1|1|0|0 U|2|1|0|0 U|3|0|1|0 M|L|0|1|1|3 M|L|3|2|1|0|1|2 \
+         B|1|0|1|2 Z R|0|-|-",
         "R|0|-|-",
     );
 }
@@ -319,7 +305,7 @@ fn what_the_buffers_hold_afterwards() {
         assert_eq!((rows.rows, rows.tables, rows.sets), (2, 3, [0, 3, 3, 0, 0, 0, 0, 0]));
         let tally = |holds, fails| Tally { holds, fails, unknown: 0 };
         assert_eq!((rows.conditions, &rows.tallies[..2]), (2, &[tally(1, 1), tally(2, 2)][..]));
-        assert_eq!(rows.tallies[2..], [Tally::default(); 30]);
+        assert_eq!(rows.tallies[2..], [Tally::default(); 62]);
         let step = |kind, first, second, rows, conditions| Step { kind, first, second, rows, conditions };
         let plan = [step(2, 0, 1, 2, 2), step(2, 3, 2, 2, 1), step(4, 1, 0, 0, 1), step(5, 0, 0, 0, 0)];
         assert_eq!(lent.steps[..4], plan);
@@ -331,12 +317,12 @@ fn what_the_buffers_hold_afterwards() {
         let mut lent = Lent::marked(sizes);
         let rows = lent.direct(&input).unwrap();
         assert_eq!((rows.rows, rows.sets), (2, [0; 8]));
-        assert_eq!((rows.conditions, rows.tallies), (0, [Tally::default(); 32]));
+        assert_eq!((rows.conditions, rows.tallies), (0, [Tally::default(); 64]));
         assert_eq!(lent.result[..6], numbers);
         assert!(lent.result[6..].iter().all(|&number| number == MARK));
         assert!(cleared(&lent));
 
-        for refused in ["X", "", "T|1|0 D|1 D|1", "T|1 D|1 P|0|0", &all_match(16, 17)] {
+        for refused in ["X", "", "T|1|0 D|1 D|1", &linked_columns("0", 16), "T|1 D|1 P|0|0", &all_match(16, 17)] {
             let mut lent = Lent::marked(sizes);
             assert!(lent.report(&text(refused)).is_err());
             assert!(lent.steps.iter().all(|&step| step == Step::default()));

@@ -45,8 +45,15 @@ pub const TEXT: usize = 16384;
 pub const TABLES: usize = 8;
 /// The most steps of a plan.
 pub const STEPS: usize = 16;
-/// The most conditions of a report.
-pub const CONDITIONS: usize = 32;
+/// The most conditions that a text may write: C and K lines. With more it is turned down by question 6.
+pub const WRITTEN: usize = 32;
+/// The most conditions of a report, written and derived. With more it is turned down by question 13.
+///
+/// Condition k below the count of the text's C and K lines is the k-th of these lines, counted from 0. The conditions
+/// behind them are derived: each says that two columns of different tables are equal, follows from a chain of `=` C
+/// lines in the blanking set of a table, and is stated by no line of the text, from either side. They are numbered by
+/// the lower table, then its column, then the higher table, then its column, once for the report.
+pub const CONDITIONS: usize = 64;
 /// The row number of a table that is blank in a row.
 pub const BLANK: u16 = u16::MAX;
 
@@ -71,7 +78,7 @@ pub struct Step {
     pub second: u8,
     /// The rows of a pair's result.
     pub rows: u16,
-    /// Bit k is condition k.
+    /// Bit k is condition k, written or derived ([`CONDITIONS`]).
     pub conditions: u64,
 }
 
@@ -85,7 +92,7 @@ pub struct Tally {
     pub unknown: u32,
 }
 
-/// The number of the question that turned a text down, 2 to 12. It is never 1, since an [`Engine`]
+/// The number of the question that turned a text down, 2 to 13. It is never 1, since an [`Engine`]
 /// lends all that question 1 asks for; 8 and 10 are not used.
 #[derive(Clone, Copy, Debug, PartialEq, Eq)]
 pub struct Refused {
@@ -128,12 +135,13 @@ pub struct Report<'a> {
 }
 
 impl<'a> Report<'a> {
-    /// Each table's blanking set: bit k is condition k.
+    /// Each table's blanking set: bit k is condition k, written or derived ([`CONDITIONS`]).
     pub fn sets(&self) -> &[u64] {
         &self.sets
     }
 
-    /// Of each condition how often it is true, false and unknown.
+    /// Of each condition how often it is true, false and unknown: of the text's C and K lines, then of the derived
+    /// ones.
     pub fn tallies(&self) -> &[Tally] {
         &self.tallies
     }

@@ -2,7 +2,7 @@
 
 mod texts;
 
-use rumbethola::{BLANK, CONDITIONS, Engine, Kind, Refused, Report, Rows, STEPS, Step, TABLES, TEXT, Tally};
+use rumbethola::{BLANK, CONDITIONS, Engine, Kind, Refused, Report, Rows, STEPS, Step, TABLES, TEXT, Tally, WRITTEN};
 use std::thread;
 
 fn step(kind: Kind, first: u8, second: u8, rows: u16, conditions: u64) -> Step {
@@ -65,7 +65,42 @@ fn an_inner_join_above_an_outer_one() {
         .report(&texts::bytes("T|1 D|1 T|1 D|1 T|1 D|1 J|L|0|1 C|0|0|=|1|0 J|I|3|2 C|0|0|=|2|0"))
         .map(|report| (report.sets().to_vec(), report.steps().to_vec()));
     let steps = vec![step(Kind::Outer, 0, 1, 1, 0b01), step(Kind::Inner, 3, 2, 1, 0b10)];
-    assert_eq!(report, Ok((vec![0b10, 0b11, 0b10], steps)));
+    assert_eq!(report, Ok((vec![0b10, 0b111, 0b10], steps)));
+}
+
+/// A derived condition has the number behind those of the lines: hours match strains and strains temperatures, so hours
+/// match temperatures.
+#[test]
+fn a_derived_condition() {
+    let mut engine = Engine::new();
+    let tables = "T|1 D|1 D|2 T|1 D|1 D|2 T|1 D|1";
+    let text = texts::bytes(&format!("{tables} J|L|0|1 C|0|0|=|1|0 J|L|3|2 C|1|0|=|2|0 P|0|2 P|3|1"));
+    let report = engine.report(&text).unwrap();
+    assert_eq!(report.sets(), [0, 0b001, 0b111]);
+    assert_eq!(report.tallies(), [tally(2, 2, 0), tally(1, 1, 0), tally(1, 1, 0)]);
+    assert_eq!(
+        report.steps(),
+        [
+            step(Kind::Outer, 0, 2, 2, 0b100),
+            step(Kind::Outer, 3, 1, 2, 0b001),
+            step(Kind::Blanking, 2, 0, 0, 0b011),
+            step(Kind::BestMatch, 0, 0, 0, 0),
+        ]
+    );
+    assert!(report.rows().eq([[0, 0, 0], [1, 1, BLANK]]));
+}
+
+/// As many conditions as there may be, and one more.
+#[test]
+fn conditions_in_all() {
+    let mut engine = Engine::new();
+    let report = engine.report(&texts::linked_columns(15)).unwrap();
+    assert_eq!(report.sets(), [0, u64::MAX]);
+    assert_eq!(report.tallies(), [tally(1, 0, 0); CONDITIONS]);
+    assert_eq!(report.steps(), [step(Kind::Outer, 0, 1, 1, u64::MAX)]);
+    assert!(report.rows().eq([[0, 0]]));
+    assert_eq!(engine.report(&texts::linked_columns(16)), Err(Refused { question: 13 }));
+    assert_eq!(engine.direct(&texts::linked_columns(16)), Err(Refused { question: 13 }));
 }
 
 /// Conditions that are unknown: cells that are blank, a K line, a table without rows, and as many pairs as there may be.
@@ -78,8 +113,8 @@ fn true_false_and_unknown() {
     assert_eq!(tallies(empty), [tally(0, 0, 0), tally(0, 1, 1)]);
     let blanks = "D|- ".repeat(256);
     assert_eq!(tallies(&format!("T|1 {blanks}T|1 {blanks}J|L|0|1 C|0|0|=|1|0")), [tally(0, 0, 65536)]);
-    let most = "C|0|0|<|1|0 ".repeat(CONDITIONS);
-    assert_eq!(tallies(&format!("T|1 D|1 T|1 D|2 J|I|0|1 {most}")), [tally(1, 0, 0); CONDITIONS]);
+    let most = "C|0|0|<|1|0 ".repeat(WRITTEN);
+    assert_eq!(tallies(&format!("T|1 D|1 T|1 D|2 J|I|0|1 {most}")), [tally(1, 0, 0); WRITTEN]);
 }
 
 #[test]

@@ -1,6 +1,6 @@
 //! The numbers that include/rumbethola.h and this wrapper name are the same.
 
-use rumbethola::{BLANK, CONDITIONS, Kind, STACK, STEPS, TABLES, TEXT, lent};
+use rumbethola::{BLANK, CONDITIONS, Kind, STACK, STEPS, TABLES, TEXT, WRITTEN, lent};
 use std::collections::BTreeMap;
 
 /// The numbers that the header defines, by their names without the prefix.
@@ -61,6 +61,7 @@ fn the_same_numbers() {
         ("TALLY_UNKNOWN", lent::TALLY_UNKNOWN as u64),
         ("TEXT", TEXT as u64),
         ("WORK", lent::WORK as u64),
+        ("WRITTEN", WRITTEN as u64),
     ];
     assert_eq!(ours.map(|(name, number)| (name.into(), number)).into_iter().collect::<BTreeMap<_, _>>(), defined());
 }

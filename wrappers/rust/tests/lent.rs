@@ -10,7 +10,7 @@ const BEHIND: usize = 8;
 /// A number that no call writes: no row, count, set, letter or digit.
 const MARK: u8 = 201;
 /// How many numbers an answer of the report has.
-const ANSWER: usize = 189;
+const ANSWER: usize = 285;
 
 #[derive(Clone, Copy, Debug, PartialEq)]
 enum Routine {
@@ -201,6 +201,27 @@ fn d_there_is_an_answer() {
                 expected.hand_over(routine, 0, &numbers, &[2, 3], [&report, &direct])
             });
         }
+    }
+}
+
+/// An answer whose sets have every bit, and whose counts fill the answer to its end.
+#[test]
+fn d_there_are_as_many_conditions_as_there_may_be() {
+    let mut numbers = [0; ANSWER];
+    numbers[..6].copy_from_slice(&[1, 2, 1, 0, 0, u64::MAX]);
+    numbers[12..17].copy_from_slice(&[2, 0, 1, 1, u64::MAX]);
+    numbers[92] = 64;
+    numbers[93..].chunks_exact_mut(3).for_each(|tally| tally.copy_from_slice(&[1, 0, 0]));
+    let set: String = (0..64).map(|number| format!("|{number}")).collect();
+    let counts: String = (0..64).map(|number| format!("U|{number}|1|0|0 ")).collect();
+    let report = texts::bytes(&format!("S|0 S|1{set} {counts}M|L|0|1|1{set} R|0|0"));
+    let direct = texts::bytes("R|0|0");
+    for routine in ROUTINES {
+        check(routine, &texts::linked_columns(15), routine.least(), |expected| {
+            expected.clear();
+            expected.result[..2].copy_from_slice(&[0, 0]);
+            expected.hand_over(routine, 0, &numbers, &[1, 2], [&report, &direct])
+        });
     }
 }
 

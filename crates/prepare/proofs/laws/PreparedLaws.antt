@@ -13,9 +13,8 @@ use Rattle.vocabulary.proofs.laws.AskingLaws.{none-left, asked-no, asked-yes}
 use Rattle.vocabulary.specs.inner.Stands.{Stands}
 use Rattle.vocabulary.specs.inner.Stored.{queryIn}
 use Rattle.vocabulary.specs.declared.query.StoredQuery.{StoredQuery}
-use Rattle.plan.specs.Plan.{groundOf, stepsOf}
+use Rattle.plan.specs.Plan.{closedSets, groundOf, stepsOf}
 use Rattle.plan.specs.Questions.{orderQuestions, question9}
-use Rattle.plan.specs.Sets.{blankingSets}
 use Rattle.plan.specs.inner.StepWords.{listed}
 use Rattle.plan.specs.inner.Words.{setWords}
 use Rattle.plan.specs.declared.steps.Plan.{Plan}
@@ -44,7 +43,7 @@ module _ (q : StoredQuery) {b : Bool} (e : b ≡ (leb (q .«pair_count») mostPa
     all-planned z cells r k = z ∙ ap (readyBy q) (sym (asked-yes _ _ _ (nine k f) ∙ none-left (queryOf r)))
 
 -- what is ready, part by part
-pub ready-parts : (q : StoredQuery) {sets : List ℕ} {s : Plan} → sets ≡ setWords (blankingSets (queryIn q))
+pub ready-parts : (q : StoredQuery) {sets : List ℕ} {s : Plan} → sets ≡ setWords (closedSets (queryIn q))
     → s ≡ listed (stepsOf (groundOf (queryIn q)) (replicate (length (joinOrder (queryIn q))) 0))
     → record { number = 0; sets = sets; plan = s; query = q } ≡ readyFor q
 unfolding readyFor

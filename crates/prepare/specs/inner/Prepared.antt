@@ -12,9 +12,8 @@ use Rattle.vocabulary.specs.Asking.{firstNo}
 use Rattle.vocabulary.specs.inner.Stands.{Stands}
 use Rattle.vocabulary.specs.inner.Stored.{queryIn}
 use Rattle.vocabulary.specs.declared.query.StoredQuery.{StoredQuery}
-use Rattle.plan.specs.Plan.{groundOf, stepsOf}
+use Rattle.plan.specs.Plan.{closedSets, groundOf, stepsOf}
 use Rattle.plan.specs.Questions.{orderQuestions}
-use Rattle.plan.specs.Sets.{blankingSets}
 use Rattle.plan.specs.inner.StepWords.{listed}
 use Rattle.plan.specs.inner.Words.{setWords}
 use Rattle.prepare.specs.declared.prepared.Prepared.{Prepared}
@@ -27,7 +26,7 @@ turnedAway q n = record { number = n; sets = replicate mostTables 0; plan = list
 unfoldable pub readyFor : StoredQuery → Prepared
 readyFor q = record {
   number = 0;
-  sets = setWords (blankingSets (queryIn q));
+  sets = setWords (closedSets (queryIn q));
   plan = listed (stepsOf (groundOf (queryIn q)) (replicate (length (joinOrder (queryIn q))) 0));
   query = q;
 }

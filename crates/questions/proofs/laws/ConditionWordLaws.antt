@@ -25,7 +25,7 @@ use Rattle.vocabulary.proofs.laws.BitLaws.{has-bits, bits-append}
 use Rattle.vocabulary.specs.declared.query.StoredJoin.{StoredJoin}
 use Rattle.vocabulary.specs.declared.query.StoredQuery.{StoredQuery}
 use Rattle.plan.specs.Plan.{crosses}
-use Rattle.plan.specs.Questions.{columnExists, sideExists, conditionFits, question6, question7}
+use Rattle.plan.specs.Questions.{columnExists, sideExists, conditionFits, joinsFit, question6, question7}
 use Rattle.plan.specs.inner.Words.{nodeWords}
 use Rattle.plan.proofs.laws.SetWords.{node-word}
 use Rattle.plan.specs.inner.PairWords.{crossesBits}
@@ -162,7 +162,7 @@ module _ (q : StoredQuery) (t : q .«table_count» ≤ mostTables) (n : q .«joi
 
   pub fits-asked : length (q .conditions) ≡ mostConditions → q .«condition_count» ≤ mostWritten → (nodes : List ℕ) → nodes ≡ nodeWords (joinNodes (queryIn q))
       → all (conditionsUnder (queryIn q) nodes) (queryIn q .joins) ≡ (leb (q .«condition_count») mostWritten && question6 (queryIn q))
-  unfolding question6
+  unfolding question6 joinsFit
   fits-asked l h nodes e =
       rw e (all-same (conditionsUnder (queryIn q) (nodeWords (joinNodes (queryIn q)))) _ (queryIn q .joins) (fits-words (queryIn q) (joinNodes (queryIn q)) nodes-few)
       ∙ sym (enough-room (length (queryIn q .conditions)) mostWritten _ (omega (arith, condition-count q (omega arith))))

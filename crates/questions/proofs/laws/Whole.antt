@@ -23,7 +23,9 @@ use Rattle.vocabulary.specs.inner.Stored.{queryIn}
 use Rattle.vocabulary.specs.inner.Stands.{Stands}
 use Rattle.vocabulary.specs.declared.query.StoredQuery.{StoredQuery}
 use Rattle.plan.specs.Plan.{crosses}
-use Rattle.plan.specs.Questions.{conditionFits, columnExists, sideExists, question6, question7, question5, noneOrBuilt, question9}
+use Rattle.plan.specs.Full.{fullQuery}
+use Rattle.plan.proofs.laws.FullLaws.{full-same}
+use Rattle.plan.specs.Questions.{conditionFits, columnExists, sideExists, joinsFit, question6, question7, question5, noneOrBuilt, question9}
 use Rattle.questions.proofs.laws.Kept.{too-many, enough-room, all-same, any-same}
 use Rattle.questions.proofs.laws.BuiltWordLaws.{built-count}
 
@@ -73,7 +75,7 @@ module _ (q r : Query) (c : q .columns ≡ r .columns) (j : q .joins ≡ r .join
     fits-same ts o = ap₂ _&&_ (column-same ts (o .table) (o .column)) (side-same ts (o .table) (o .side))
 
     six-same : question6 q ≡ question6 r
-    unfolding question6
+    unfolding question6 joinsFit
     six-same = ap₂ _&&_ (ap (λ (l : List Condition). leb (length l) mostWritten) d)
         (all-same (six q) (six r) (q .joins) (λ x. all-same _ _ (x .conditions) (λ i. rw (number-same i, nodes-same)
         (fits-same (tablesAt (joinNodes r) (x .left) ++ tablesAt (joinNodes r) (x .right)) (conditionAt r i)))) ∙ ap (all (six r)) j)
@@ -97,10 +99,10 @@ module _ {s : StoredQuery} {cells : List ℤ} {r : Report} (k : Stands s cells r
   unfolding tableCount
   same-tables = rw (k .columns)
 
-  same-joins : s .«join_count» ≤ mostJoins → queryIn s .joins ≡ q .joins
+  pub same-joins : s .«join_count» ≤ mostJoins → queryIn s .joins ≡ q .joins
   same-joins h = k .joins ∙ take-all mostJoins (q .joins) (omega (arith, k .join-count))
 
-  same-conditions : s .«condition_count» ≤ mostConditions → queryIn s .conditions ≡ q .conditions
+  pub same-conditions : s .«condition_count» ≤ mostConditions → queryIn s .conditions ≡ q .conditions
   same-conditions h = k .conditions ∙ take-all mostConditions (q .conditions) (omega (arith, k .condition-count))
 
   same-pairs : s .«pair_count» ≤ mostPairs → queryIn s .pairs ≡ q .pairs
@@ -138,6 +140,10 @@ module _ {s : StoredQuery} {cells : List ℤ} {r : Report} (k : Stands s cells r
     module _ (m : s .«condition_count» ≤ mostConditions) where
       pub whole-seven : question7 (queryIn s) ≡ question7 q
       whole-seven = seven-same (queryIn s) q (k .columns) (same-joins n) (same-conditions m)
+
+      -- the conditions in all, written and derived
+      pub whole-full : fullQuery (queryIn s) .conditions ≡ fullQuery q .conditions
+      whole-full = full-same (queryIn s) q (k .columns) (same-joins n) (same-conditions m)
 
       -- once question 9 was answered yes
       pub whole-query : s .«pair_count» ≤ mostPairs → queryIn s ≡ q

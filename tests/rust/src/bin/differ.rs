@@ -8,14 +8,17 @@
 //! buffers begin with numbers made by chance; they are as long as they must be, longer or shorter. The memory behind
 //! what is lent is compared too.
 //!
-//! Exit status 1: a difference, whose text is written to target/differ.in, or a refusal other than 8 and 10 or an outcome
-//! of conditions that did not occur, or a kind of key column, or of pairs whose conditions are of several joins, that is
-//! rare. Numbers 8 and 10 are not used.
+//! Exit status 1: a difference, whose text is written to target/differ.in, or a refusal other than 8 and 10 or an
+//! outcome of conditions that did not occur, or a kind of key column, of pairs whose conditions are of several joins,
+//! or of derived conditions, that is rare. Numbers 8 and 10 are not used.
 
-use hashjoin::generate::{OPERATORS, Random, each_fixed_text, each_random_text};
-use hashjoin::key_columns::key_columns;
+#[path = "differ/counts.rs"]
+mod counts;
+
+use counts::{Counts, Derived, KeyColumns, NOT_USED, Outcomes, Pairs, three};
+use hashjoin::generate::{Random, each_fixed_text, each_random_text};
 use hashjoin::lent::{LEAST, Lent};
-use hashjoin::{Answer, CONDITIONS, INNER, OUTER, ROWS, Rows, STEPS, Step, Tally, write_direct, write_report};
+use hashjoin::{Answer, CONDITIONS, Rows, STEPS, Step, Tally, write_direct, write_report};
 use rumbethola::lent as library;
 use std::process::exit;
 use std::time::{Duration, Instant};
@@ -28,16 +31,6 @@ const BEHIND: usize = 16;
 const BATCH: usize = 1000;
 /// Where the text of a difference is written.
 const FOUND: &str = "target/differ.in";
-const QUESTIONS: usize = 12;
-/// How often each operator must come out in each way; a damaged line has another operator now and then.
-const FEWEST: u64 = 16;
-/// Each kind of key column must occur in answers once for so many answers, and in refusals by question 12 once for so
-/// many of these; and there must be such a refusal for so many answers. Faults and damage make some of each kind.
-const ANSWERS_FOR_A_KIND: u64 = 50;
-const REFUSALS_FOR_A_KIND: u64 = 6;
-const ANSWERS_FOR_A_REFUSAL: u64 = 100;
-/// Numbers that no question has.
-const NOT_USED: [usize; 2] = [8, 10];
 
 /// The least lengths: cells, work, result, the answer of the report, that of the direct reading, the output.
 const LEASTS: [usize; 6] = [LEAST[0], LEAST[1], LEAST[2], library::ANSWER, library::DIRECT_ANSWER, library::OUT];
@@ -113,200 +106,6 @@ macro_rules! parts {
     };
 }
 
-/// How often a call was answered (0), refused by each question, or had no room for its answer.
-#[derive(Default)]
-struct Counts {
-    statuses: [u64; QUESTIONS + 1],
-    no_room: u64,
-}
-
-impl Counts {
-    fn count(&mut self, status: u8) {
-        match status {
-            library::NO_ROOM => self.no_room += 1,
-            status => self.statuses[usize::from(status)] += 1,
-        }
-    }
-
-    fn print(&self, name: &str) {
-        let refused: Vec<String> =
-            self.statuses.iter().enumerate().skip(1).map(|(question, count)| format!("{question}: {count}")).collect();
-        println!("{name}: answered {}, refused by {}, no room {}", self.statuses[0], refused.join(", "), self.no_room);
-    }
-
-    fn lacks(&self, but: &[usize]) -> bool {
-        self.statuses.iter().enumerate().any(|(status, &count)| count == 0 && !but.contains(&status))
-    }
-}
-
-/// What the counts of conditions were in answers of the report.
-#[derive(Default)]
-struct Outcomes {
-    conditions: u64,
-    /// Answers with as many conditions as there can be.
-    full: u64,
-    /// Conditions without a pair of rows; true, false and unknown of some pairs; and true, false or unknown of all
-    /// pairs of two tables with as many rows as there can be.
-    no_pair: u64,
-    mixed: u64,
-    all_pairs: [u64; 3],
-    /// In C and in K lines of texts made by chance, for each operator: conditions that are true, false and unknown of
-    /// some pairs.
-    operators: [[[u64; 3]; OPERATORS.len()]; 2],
-}
-
-/// The lines of a valid text that are conditions: whether it is a K line, and which operator it has.
-fn conditions(text: &[u8]) -> impl Iterator<Item = (usize, usize)> {
-    let lines = text.split(|&byte| byte == b'\n').filter(|line| matches!(line.first(), Some(b'C' | b'K')));
-    lines.map(|line| {
-        let written = line.split(|&byte| byte == b'\t').nth(3);
-        let operator = OPERATORS.iter().position(|name| written == Some(name.as_bytes()));
-        (usize::from(line[0] == b'K'), operator.expect("an answered text has no other operator"))
-    })
-}
-
-impl Outcomes {
-    fn count(&mut self, text: &[u8], rows: &Rows) {
-        self.full += u64::from(rows.conditions == CONDITIONS);
-        for (tally, (constant, operator)) in rows.tallies[..rows.conditions].iter().zip(conditions(text)) {
-            let counts = three(tally);
-            for (some, count) in self.operators[constant][operator].iter_mut().zip(counts) {
-                *some += u64::from(count > 0);
-            }
-            self.conditions += 1;
-            self.no_pair += u64::from(counts.iter().all(|&count| count == 0));
-            self.mixed += u64::from(counts.iter().all(|&count| count > 0));
-            for (all, count) in self.all_pairs.iter_mut().zip(counts) {
-                *all += u64::from(count == (ROWS * ROWS) as u64);
-            }
-        }
-    }
-
-    fn print(&self) {
-        let [holds, fails, unknown] = self.all_pairs;
-        println!(
-            "conditions: {} in answers, {} answers with {CONDITIONS}; without a pair {}, true, false and unknown {}; \
-             of 65536 pairs all true {holds}, all false {fails}, all unknown {unknown}",
-            self.conditions, self.full, self.no_pair, self.mixed
-        );
-        for (letter, operators) in ["C", "K"].iter().zip(&self.operators) {
-            let each: Vec<String> = OPERATORS
-                .iter()
-                .zip(operators)
-                .map(|(name, [holds, fails, unknown])| format!("{name} {holds} {fails} {unknown}"))
-                .collect();
-            println!("{letter} lines made by chance true, false, unknown of some pairs: {}", each.join(", "));
-        }
-    }
-
-    fn lacks(&self) -> bool {
-        let rare = self.operators.as_flattened().as_flattened().iter().any(|&count| count < FEWEST);
-        self.full == 0 || self.no_pair == 0 || self.mixed == 0 || self.all_pairs.contains(&0) || rare
-    }
-}
-
-/// What the key columns of texts were.
-#[derive(Default)]
-struct KeyColumns {
-    /// In answers of the report: of tables with as many rows as there can be.
-    full: u64,
-    /// Answers of the report to texts made by chance, and their key columns: of tables without rows, with one, and with
-    /// more; behind the first column.
-    answers: u64,
-    answered: [u64; 4],
-    /// Texts made by chance that question 12 turned down, and those of their key columns that do not exist, that have a
-    /// blank, and that have equal cells.
-    refusals: u64,
-    refused: [u64; 3],
-}
-
-impl KeyColumns {
-    /// Counts those of a text that is answered, or that question 12 turns down.
-    fn count(&mut self, text: &[u8], answered: bool) {
-        *if answered { &mut self.answers } else { &mut self.refusals } += 1;
-        for column in key_columns(text) {
-            let rows = column.cells.len();
-            if answered {
-                self.full += u64::from(rows == ROWS);
-                self.answered[rows.min(2)] += 1;
-                self.answered[3] += u64::from(column.number > 0);
-            } else {
-                let why = [!column.exists(), column.has_blank(), column.has_equal()];
-                self.refused.iter_mut().zip(why).for_each(|(count, why)| *count += u64::from(why));
-            }
-        }
-    }
-
-    fn print(&self) {
-        let ([none, one, more, behind], [missing, blank, equal]) = (self.answered, self.refused);
-        println!(
-            "key columns made by chance: in {} answers without rows {none}, of one row {one}, of more {more}, behind the \
-             first column {behind}; in {} refusals by 12 that do not exist {missing}, with a blank {blank}, with equal \
-             cells {equal}; in all answers of {ROWS} rows {}",
-            self.answers, self.refusals, self.full
-        );
-    }
-
-    fn lacks(&self) -> bool {
-        let rare = |counts: &[u64], of: u64, many: u64| counts.iter().any(|&count| count == 0 || many * count < of);
-        self.full == 0
-            || rare(&self.answered, self.answers, ANSWERS_FOR_A_KIND)
-            || rare(&self.refused, self.refusals, REFUSALS_FOR_A_KIND)
-            || rare(&[self.refusals], self.answers, ANSWERS_FOR_A_REFUSAL)
-    }
-}
-
-/// In answers of the report to texts made by chance: pairs whose usable conditions are of several J lines, joined by an
-/// inner join, and by an outer join.
-#[derive(Default)]
-struct Pairs {
-    inner: u64,
-    outer: u64,
-}
-
-/// For each condition of a valid text, which J line it stands behind.
-fn joins_of_conditions(text: &[u8]) -> Vec<usize> {
-    let mut joins = 0;
-    let mut of_conditions = vec![];
-    for line in text.split(|&byte| byte == b'\n') {
-        match line.first() {
-            Some(b'J') => joins += 1,
-            Some(b'C' | b'K') => of_conditions.push(joins),
-            _ => (),
-        }
-    }
-    of_conditions
-}
-
-impl Pairs {
-    fn count(&mut self, text: &[u8], steps: &[Step]) {
-        let joins = joins_of_conditions(text);
-        for step in steps {
-            let mut of_step =
-                joins.iter().enumerate().filter(|&(c, _)| step.conditions >> c & 1 == 1).map(|(_, join)| join);
-            let first = of_step.next();
-            let several = of_step.any(|join| Some(join) != first);
-            match step.kind {
-                INNER => self.inner += u64::from(several),
-                OUTER => self.outer += u64::from(several),
-                _ => (),
-            }
-        }
-    }
-
-    fn print(&self) {
-        println!("pairs made by chance with conditions of several joins: inner {}, outer {}", self.inner, self.outer);
-    }
-
-    fn lacks(&self) -> bool {
-        self.inner < FEWEST || self.outer < FEWEST
-    }
-}
-
-fn three(tally: &Tally) -> [u64; 3] {
-    [tally.holds, tally.fails, tally.unknown].map(u64::from)
-}
-
 struct Differ {
     /// What every call begins with, what it must leave, and what it leaves.
     start: Memory,
@@ -319,14 +118,15 @@ struct Differ {
     outcomes: Outcomes,
     key_columns: KeyColumns,
     pairs: Pairs,
+    derived: Derived,
 }
 
 impl Differ {
     fn new(seed: u64) -> Differ {
         let [start, expected, found] = [(); 3].map(|()| Memory::new());
-        let (report, direct, outcomes, key_columns, pairs) = Default::default();
+        let (report, direct, outcomes, key_columns, pairs, derived) = Default::default();
         let random = Random::new(!seed);
-        Differ { start, expected, found, random, calls: 0, report, direct, outcomes, key_columns, pairs }
+        Differ { start, expected, found, random, calls: 0, report, direct, outcomes, key_columns, pairs, derived }
     }
 
     /// The lengths of a call by chance: now and then one is too short.
@@ -366,8 +166,10 @@ impl Differ {
                 self.outcomes.count(text, rows);
                 self.key_columns.count(text, true);
                 self.pairs.count(text, &expected.lent.steps);
+                self.derived.count(text, rows, &expected.lent.steps);
             }
             (Err(12), 12) => self.key_columns.count(text, false),
+            (Err(13), 13) => self.derived.count_refusal(text),
             _ => (),
         }
         if lengths[3] < library::ANSWER {
@@ -519,10 +321,12 @@ fn main() {
         each_lengths(&mut |lengths| differ.compare(text, lengths));
     }
 
-    // The fixed texts have every operator and every kind of key column, whatever those made by chance have.
-    differ.outcomes.operators = Default::default();
-    differ.key_columns = KeyColumns { full: differ.key_columns.full, ..Default::default() };
+    // The fixed texts have every operator and every kind of key column and derived condition, whatever those made by
+    // chance have.
+    differ.outcomes.begin_chance();
+    differ.key_columns.begin_chance();
     differ.pairs = Pairs::default();
+    differ.derived = Derived::default();
     let mut seed = options.seed;
     while chance < options.count && options.time.is_none_or(|time| began.elapsed() < time) {
         let batch = BATCH.min(options.count - chance);
@@ -540,6 +344,7 @@ fn main() {
     differ.outcomes.print();
     differ.key_columns.print();
     differ.pairs.print();
+    differ.derived.print();
     println!("no difference, {:.1} s", began.elapsed().as_secs_f64());
     if differ.report.lacks(&NOT_USED) || differ.direct.lacks(&[&NOT_USED[..], &[9]].concat()) {
         println!("a refusal did not occur");
@@ -555,6 +360,10 @@ fn main() {
     }
     if differ.pairs.lacks() {
         println!("pairs with conditions of several joins are rare");
+        exit(1)
+    }
+    if differ.derived.lacks() {
+        println!("a kind of derived conditions is rare");
         exit(1)
     }
 }

@@ -20,8 +20,13 @@ const TABLES: usize = 8;
 const ORDERS: usize = 135_135;
 
 /// Reports of eight tables without P lines; | stands for a tab.
-const REPORTS: [(&str, &str); 4] =
-    [("gaps", GAPS), ("an empty table", EMPTY), ("products", PRODUCTS), ("outer joins undone", UNDONE)];
+const REPORTS: [(&str, &str); 5] = [
+    ("gaps", GAPS),
+    ("an empty table", EMPTY),
+    ("products", PRODUCTS),
+    ("outer joins undone", UNDONE),
+    ("links that follow", LINKS),
+];
 
 /// Two or three rows a table, with blank cells; inner and outer joins mixed, both sides of a join being joins.
 const GAPS: &str = "\
@@ -94,6 +99,25 @@ J|L|9|10\nC|0|0|=|3|0\nC|0|1|>=|4|0\n\
 J|L|5|6\nC|5|1|=|6|0\n\
 J|I|11|12\nC|0|1|=|5|0\nC|1|0|<=|6|0\n\
 J|L|13|7\nC|1|1|<=|7|0\nC|2|0|=|7|0\n";
+
+/// Chains of equalities over all tables, one through two columns of table 3, lines that say the same, and a line that
+/// joins sets: 13 lines and 26 derived conditions.
+const LINKS: &str = "\
+T|2\nD|1|1\nD|2|1\nD|3|2\n\
+T|2\nD|1|1\nD|2|2\nD|-|1\n\
+T|1\nD|1\nD|3\n\
+T|2\nD|1|1\nD|2|2\nD|2|3\n\
+T|1\nD|1\nD|2\n\
+T|1\nD|1\nD|2\nD|-\n\
+T|2\nD|1|2\nD|2|2\n\
+T|1\nD|1\nD|4\n\
+J|L|0|1\nC|0|0|=|1|0\n\
+J|L|8|2\nC|1|0|=|2|0\n\
+J|I|3|4\nC|3|0|=|4|0\nC|3|1|=|4|0\n\
+J|L|9|10\nC|0|0|=|3|0\nC|2|0|=|1|0\n\
+J|L|5|6\nC|5|0|=|6|0\n\
+J|L|11|12\nC|1|0|=|5|0\nC|3|0|<=|6|1\nC|1|1|=|0|1\n\
+J|L|13|7\nC|6|0|=|7|0\nC|0|0|=|5|0\nC|0|1|=|1|1\n";
 
 /// A tree: a table, or two trees.
 #[derive(Clone)]

@@ -1,12 +1,12 @@
-//! Faults that turn a valid report into one that questions 3 to 7, 9, 11 and 12 turn down.
+//! Faults that turn a valid report into one that questions 3 to 7, 9 and 11 to 13 turn down.
 
 use super::Random;
-use super::reports::{Other, Report, Table};
-use crate::{BLANK, CELLS, CONDITIONS, ROWS, TABLES};
+use super::reports::{Condition, Other, Report, Table};
+use crate::{BLANK, CELLS, COLUMNS, ROWS, TABLES, WRITTEN};
 
 /// Adds one fault, where the report has a place for it.
 pub fn add(report: &mut Report, random: &mut Random) {
-    match random.below(8) {
+    match random.below(9) {
         0 => size(report, random),
         1 => width(report, random),
         2 => tree(report, random),
@@ -14,6 +14,7 @@ pub fn add(report: &mut Report, random: &mut Random) {
         4 => no_link(report, random),
         5 => order(report, random),
         6 => key_column(report, random),
+        7 => many_links(report, random),
         _ => many_rows(report, random),
     }
 }
@@ -118,7 +119,7 @@ fn condition(report: &mut Report, random: &mut Random) {
     let join = &mut report.joins[at];
     if random.one_in(6) {
         let condition = join.conditions[0];
-        return join.conditions.resize(CONDITIONS + 1, condition);
+        return join.conditions.resize(WRITTEN + 1, condition);
     }
     let at = random.below(join.conditions.len());
     let condition = &mut join.conditions[at];
@@ -149,6 +150,35 @@ fn no_link(report: &mut Report, random: &mut Random) {
         report.constant(side[0], 0, random)
     };
     report.joins[at].conditions.fill(condition);
+}
+
+/// Question 13: a join that links all columns of two tables, which get eight, and states some of these links again.
+/// With as many links as columns less one, and no other condition in the report, there are just as many conditions in
+/// all as there may be.
+fn many_links(report: &mut Report, random: &mut Random) {
+    if report.joins.is_empty() || report.tables.iter().any(|table| table.columns == 0) {
+        return;
+    }
+    let at = random.below(report.joins.len());
+    let sides = [0, 1].map(|side| random.pick(&report.joins[at].named[side]));
+    if sides.iter().any(|&table| table >= report.tables.len()) {
+        return;
+    }
+    for table in sides {
+        let Table { columns, rows, .. } = &mut report.tables[table];
+        if *columns < COLUMNS {
+            *columns = COLUMNS;
+            rows.iter_mut().for_each(|row| row.resize(COLUMNS, 0));
+        }
+    }
+    let [left, right] = sides;
+    let link = |table, column, other| Condition { table, column, operator: "=", other: Other::Column(other, 0) };
+    let mut links: Vec<Condition> = (0..COLUMNS).map(|column| link(left, column, right)).collect();
+    links.extend((1..COLUMNS).map(|column| link(right, column, left)));
+    for _ in 0..random.below(3) {
+        links.push(random.pick(&links));
+    }
+    report.joins[at].conditions = links;
 }
 
 /// Question 11: all rows match, so that no column can be a key column. An empty table leaves it to the order whether a

@@ -1,7 +1,7 @@
 //! Reports at each limit, and one past it.
 
 use super::reports::{Condition, Join, OPERATORS, Other, Report, Table};
-use crate::{BLANK, CONDITIONS, ROWS, TEXT};
+use crate::{BLANK, COLUMNS, ROWS, TABLES, TEXT, WRITTEN};
 
 pub fn each(take: &mut dyn FnMut(&[u8])) {
     for report in reports() {
@@ -52,7 +52,103 @@ fn reports() -> Vec<Report> {
     reports.push(longest_plan());
     reports.extend(counted_conditions());
     reports.extend(key_columns());
+    reports.extend(linked_columns());
     reports
+}
+
+/// Links of columns, so that there are about as many conditions in all as there may be, or far more, of which few or
+/// as many as there may be are written.
+fn linked_columns() -> Vec<Report> {
+    let mut reports = vec![];
+    // Without more lines 28, 50, 53, 55, 56, 62, 84 and 112 conditions, of which 7, 18, 18, 19, 14, 17, 21 and 28 are
+    // written.
+    let groups: [&[usize]; 8] =
+        [&[8], &[8, 5, 4, 3, 3], &[8, 6, 4, 3, 2], &[8, 6, 4, 3, 3], &[8, 8], &[8, 8, 4], &[8, 8, 8], &[8, 8, 8, 8]];
+    for groups in groups {
+        for outer in [false, true] {
+            for star in [false, true] {
+                let report = linked_in_groups(groups, outer, star);
+                reports.extend((0..=15).map(|more| with_more_lines(report.clone(), more)));
+            }
+        }
+    }
+    // 64, 48, 54, 90, 112, 252 and 448 conditions, of which 15, 11, 11, 14, 15, 23 and 31 are written.
+    for [tables, columns] in [[2, COLUMNS], [3, 4], [4, 3], [5, 3], [8, 2], [8, 3], [8, 4]] {
+        for outer in [false, true] {
+            let report = all_linked(tables, columns, outer);
+            reports.extend((0..=9).map(|more| with_more_lines(report.clone(), more)));
+        }
+    }
+    reports.extend(links_and_fault());
+    reports
+}
+
+/// Eight tables and groups of so many columns, no group larger than the one before it: the first tables have a column
+/// of each. A group is a chain, or all of it is linked to table 0. Two rows match.
+fn linked_in_groups(groups: &[usize], outer: bool, star: bool) -> Report {
+    let of_table = |table: usize| groups.iter().filter(|&&size| size > table).count();
+    let tables = (0..TABLES).map(|table| rows_of_one_number(of_table(table), 2)).collect();
+    let mut report = chain(tables, outer);
+    for (join, table) in report.joins.iter_mut().zip(1..) {
+        let from = if star { 0 } else { table - 1 };
+        join.conditions = (0..of_table(table)).map(|column| link([from, column], [table, column])).collect();
+    }
+    report
+}
+
+/// Tables whose columns are all linked: of each pair of neighbours column 0 of the one with all columns of the other.
+fn all_linked(tables: usize, columns: usize, outer: bool) -> Report {
+    let mut report = chain(vec![rows_of_one_number(columns, 2); tables], outer);
+    for (join, table) in report.joins.iter_mut().zip(1..) {
+        join.conditions = (0..columns).map(|column| link([table - 1, 0], [table, column])).collect();
+    }
+    report.joins[0].conditions.extend((1..columns).map(|column| link([1, 0], [0, column])));
+    report
+}
+
+/// The report with lines that stand in it already, every second read from its other side, in its last join.
+fn with_more_lines(mut report: Report, more: usize) -> Report {
+    let lines: Vec<Condition> = report.joins.iter().flat_map(|join| &join.conditions).copied().collect();
+    let again = lines.iter().cycle().take(more).enumerate();
+    let again = again.map(|(at, line)| if at % 2 == 0 { *line } else { line.turned().expect("a link") });
+    report.joins.last_mut().expect("a join").conditions.extend(again);
+    report
+}
+
+/// A condition more than there may be in all, alone and beside what each other question turns down.
+fn links_and_fault() -> Vec<Report> {
+    let many = with_more_lines(all_linked(2, COLUMNS, true), 1);
+    let mut third = many.clone();
+    third.tables.push(counted(1, 1));
+    third.joins.push(join(true, [3, 2], [0, 2], |_| 0));
+    let mut reports = vec![many.clone(), third.clone(), third];
+    reports[2].joins[1].conditions[0].other = Other::Constant(1);
+    let at = reports.len();
+    reports.resize(at + 11, many);
+    let more = &mut reports[at..];
+    more[0].tables[1].columns = 9;
+    more[1].tables.resize(9, counted(1, 0));
+    more[2].tables[1].rows[0].push(0);
+    more[3].tables[1].key_column = Some(8);
+    more[4].joins[0].sides = [0, 0];
+    more[5].tables.push(counted(1, 1));
+    more[6].joins[0].conditions[0].column = 8;
+    let line = more[7].joins[0].conditions[0];
+    more[7].joins[0].conditions.resize(WRITTEN + 1, line);
+    more[8].order = vec![[0, 0]];
+    more[9].order = vec![[0, 1]; 2];
+    more[10].tables = vec![constant(8, 17); 2];
+    reports
+}
+
+/// A table whose rows have their number in every column.
+fn rows_of_one_number(columns: usize, rows: usize) -> Table {
+    Table { columns, rows: (0..rows as i32).map(|row| vec![row; columns]).collect(), key_column: None }
+}
+
+/// An equality of two columns, each with its table before it.
+fn link([table, column]: [usize; 2], [second, of_second]: [usize; 2]) -> Condition {
+    Condition { table, column, operator: "=", other: Other::Column(second, of_second) }
 }
 
 /// Conditions with as many pairs as there can be, with none, with blanks on either side and on both, with cells at the
@@ -68,15 +164,15 @@ fn counted_conditions() -> Vec<Report> {
             reports.push(compared([first.clone(), second.clone()], outer, OPERATORS.len()));
         }
         for [first, second] in [[first.clone(), some()], [some(), second.clone()], [first, column(vec![])]] {
-            reports.push(compared([first, second], true, CONDITIONS));
+            reports.push(compared([first, second], true, WRITTEN));
         }
     }
     // `<=` is true of all pairs but one, and `>` of one: counts of 65,535 and 1.
     let mut tables = [1, 3].map(|cell| column(vec![cell; ROWS]));
     tables[0].rows[ROWS - 1] = vec![3];
     tables[1].rows[0] = vec![2];
-    reports.push(compared(tables, false, CONDITIONS));
-    reports.push(compared([some(), some()], false, CONDITIONS));
+    reports.push(compared(tables, false, WRITTEN));
+    reports.push(compared([some(), some()], false, WRITTEN));
     for constant in ends.into_iter().filter(|&cell| cell != BLANK) {
         for rows in [ends.to_vec(), vec![constant; ROWS], vec![BLANK; ROWS], vec![]] {
             let mut report = compared([column(rows), some()], true, OPERATORS.len());

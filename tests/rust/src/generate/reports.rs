@@ -1,7 +1,7 @@
 //! Valid reports.
 
 use super::Random;
-use crate::{BLANK, ROWS};
+use crate::{BLANK, COLUMNS, ROWS, WRITTEN};
 use std::fmt::Write;
 
 pub const OPERATORS: [&str; 6] = ["<", "=", "<=", ">", "<>", ">="];
@@ -28,6 +28,23 @@ pub struct Condition {
     pub other: Other,
 }
 
+impl Condition {
+    /// The tables that it names.
+    fn named(self) -> impl Iterator<Item = usize> {
+        let second = match self.other {
+            Other::Column(second, _) => Some(second),
+            Other::Constant(_) => None,
+        };
+        [self.table].into_iter().chain(second)
+    }
+
+    /// A C line with its two columns exchanged.
+    pub fn turned(self) -> Option<Condition> {
+        let Other::Column(table, column) = self.other else { return None };
+        Some(Condition { table, column, other: Other::Column(self.table, self.column), ..self })
+    }
+}
+
 #[derive(Clone)]
 pub struct Join {
     pub outer: bool,
@@ -52,10 +69,13 @@ struct Node {
 }
 
 impl Report {
-    /// A report that questions 2 to 7, 9 and 12 let pass.
+    /// A report that questions 2 to 7, 9 and 12 let pass, and most often 13.
     pub fn random(random: &mut Random) -> Report {
         if random.one_in(200) {
             return Report::of_many_pairs(random);
+        }
+        if random.one_in(12) {
+            return Report::of_many_links(random);
         }
         let count = random.pick(&[1, 2, 2, 3, 3, 3, 4, 4, 4, 5, 5, 6, 6, 7, 8]);
         // Many rows go with many values, so that results stay small.
@@ -106,12 +126,43 @@ impl Report {
         report
     }
 
+    /// Up to 32 lines, most of them equalities over the first columns of the tables, so that chains of them link many
+    /// columns, two of one table too, and there are about as many conditions in all as there may be. The cells of a row
+    /// are most often equal, so that there are rows.
+    fn of_many_links(random: &mut Random) -> Report {
+        let count = random.pick(&[2, 3, 4, 4, 5, 5, 6, 6, 7, 8]);
+        let most_columns = [COLUMNS, 5, 4, 3, 3, 2, 2][count - 2];
+        let mut report = Report::default();
+        for _ in 0..count {
+            let columns = most_columns - random.below(2);
+            let row = |random: &mut Random| match (value(2, random), random.one_in(4)) {
+                (_, true) => (0..columns).map(|_| cell(2, 8, random)).collect(),
+                (number, false) => vec![number; columns],
+            };
+            let rows = (0..random.pick(&[0, 1, 1, 2, 2, 3])).map(|_| row(random)).collect();
+            report.tables.push(Table { columns, rows, key_column: None });
+        }
+        report.add_joins(2, random);
+        let lines = random.pick(&[count + 2, 2 * count, 3 * count, WRITTEN]);
+        while report.written() < lines.min(WRITTEN) {
+            let at = random.below(report.joins.len());
+            let link = Condition { operator: EQUAL, ..report.between(&report.joins[at], random) };
+            report.joins[at].conditions.push(link);
+        }
+        if !random.one_in(4) {
+            report.order = order(count, random);
+        }
+        report
+    }
+
     /// Joins whose conditions name any table under them. One report of five is made so that its tree is simplified: no
     /// join names a table right of an outer join in a side that it blanks.
     fn add_joins(&mut self, values: usize, random: &mut Random) {
         let count = self.tables.len();
         let simplified = random.one_in(5);
         let outer_chances = random.pick(&[1, 2, 2, 2, 4, 100]);
+        let aside_chances = random.pick(&[1, 2, 8]);
+        let mut asides: Vec<Condition> = vec![];
         let mut roots: Vec<Node> =
             (0..count).map(|table| Node { number: table, tables: vec![table], nullable: vec![] }).collect();
         for number in count..2 * count - 1 {
@@ -132,9 +183,46 @@ impl Report {
                 let place = random.below(join.conditions.len() + 1);
                 join.conditions.insert(place, more);
             }
+            if self.written() < WRITTEN / 2 {
+                if random.one_in(2) {
+                    self.state_again(&mut join, &asides, random);
+                }
+                let left = &join.named[0];
+                if outer && left.len() > 1 && random.one_in(aside_chances) {
+                    let aside = Condition { operator: EQUAL, ..self.one_sided(left, random) };
+                    join.conditions.push(aside);
+                    asides.push(aside);
+                }
+            }
             self.joins.push(join);
             roots.push(Node { number, tables, nullable });
         }
+    }
+
+    /// The count of C and K lines.
+    fn written(&self) -> usize {
+        self.joins.iter().map(|join| join.conditions.len()).sum()
+    }
+
+    /// Adds what one of the lines before says to the join: the same line, read from either side, or a chain over a
+    /// column of a third table. The lines before are equalities of two tables left of an outer join, so that neither
+    /// table has them in its set, and a set that says the same takes them.
+    fn state_again(&self, join: &mut Join, before: &[Condition], random: &mut Random) {
+        let under = join.named.concat();
+        let before: Vec<&Condition> =
+            before.iter().filter(|line| line.named().all(|table| under.contains(&table))).collect();
+        if before.is_empty() {
+            return;
+        }
+        let line = *random.pick(&before);
+        let Some(turned) = line.turned() else { return };
+        let third: Vec<usize> = under.into_iter().filter(|&table| line.named().all(|named| named != table)).collect();
+        if third.is_empty() || random.one_in(2) {
+            return join.conditions.push(random.pick(&[line, turned]));
+        }
+        let table = random.pick(&third);
+        let other = Other::Column(table, random.below(self.tables[table].columns));
+        join.conditions.extend([line, turned].map(|line| Condition { other, ..line }));
     }
 
     /// A condition between the join's sides.
@@ -146,21 +234,27 @@ impl Report {
         self.compare(sides[0], sides[1], random)
     }
 
-    /// One more condition of the join, now and then over columns that an earlier one compares: the same line again,
-    /// with another operator, or read from its other side.
+    /// One more condition of the join, now and then over columns that an earlier one compares, of this join or of one
+    /// below it: the same line again, with another operator, with another column of the same table, or read from its
+    /// other side.
     fn one_more(&self, join: &Join, values: usize, random: &mut Random) -> Condition {
-        if !random.one_in(4) {
+        if !random.one_in(3) {
             return self.condition(join, values, random);
         }
+        let below: Vec<Condition> = self.joins.iter().flat_map(|join| &join.conditions).copied().collect();
         let mut again = random.pick(&join.conditions);
-        if random.one_in(2) {
-            again.operator = random.pick(&OPERATORS);
+        if !below.is_empty() && random.one_in(2) {
+            let other = random.pick(&below);
+            if other.named().all(|table| join.named.iter().any(|side| side.contains(&table))) {
+                again = other;
+            }
         }
-        if let (Other::Column(second, of_second), true) = (again.other, random.one_in(2)) {
-            again.other = Other::Column(again.table, again.column);
-            (again.table, again.column) = (second, of_second);
+        match random.below(6) {
+            0 | 1 => again.operator = random.pick(&OPERATORS),
+            2 => again.column = random.below(self.tables[again.table].columns),
+            _ => (),
         }
-        again
+        if random.one_in(2) { again.turned().unwrap_or(again) } else { again }
     }
 
     /// Any condition that the join may have.
@@ -187,7 +281,11 @@ impl Report {
     }
 
     fn compare(&self, first: usize, second: usize, random: &mut Random) -> Condition {
-        let mut column = |table: usize| random.below(self.tables[table].columns);
+        // Most often the first column, so that conditions share columns.
+        let mut column = |table: usize| {
+            let column = random.below(self.tables[table].columns);
+            if random.one_in(2) { 0 } else { column }
+        };
         let (column, other) = (column(first), Other::Column(second, column(second)));
         let operator = if random.one_in(3) { random.pick(&OPERATORS) } else { EQUAL };
         Condition { table: first, column, operator, other }

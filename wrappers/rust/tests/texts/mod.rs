@@ -1,5 +1,5 @@
-//! Texts of which document 01 says what they get, and the texts of trials/ and samples/ with their stored prints. In a
-//! constant | stands for a tab and a space for the end of a line.
+//! Texts of which documents 01 and 02 say what they get, and the texts of trials/ and samples/ with their stored
+//! prints. In a constant | stands for a tab and a space for the end of a line.
 #![allow(dead_code)] // each test takes some of them
 
 use std::fs;
@@ -29,6 +29,15 @@ pub fn document_in_another_order() -> Vec<u8> {
 pub fn all_match(left: usize, right: usize) -> Vec<u8> {
     let rows = |count| "D|1 ".repeat(count);
     bytes(&format!("T|1 {}T|1 {}J|I|0|1 C|0|0|=|1|0", rows(left), rows(right)))
+}
+
+/// Two tables of eight columns and one row, all columns linked: 15 lines and 49 derived conditions. Where there are to
+/// be more lines, the first stands again.
+pub fn linked_columns(lines: usize) -> Vec<u8> {
+    let tables = "T|8 D|5|5|5|5|5|5|5|5 ".repeat(2);
+    let first: String = (0..8).map(|column| format!("C|0|0|=|1|{column} ")).collect();
+    let second: String = (1..8).map(|column| format!("C|1|0|=|0|{column} ")).collect();
+    bytes(&format!("{tables}J|L|0|1 {first}{second}{}", "C|0|0|=|1|0 ".repeat(lines - 15)))
 }
 
 /// One table of 256 rows whose text has so many bytes, at least 4,612.
@@ -66,6 +75,9 @@ pub fn refused() -> Vec<(u8, Vec<u8>)> {
         (6, bytes(&conditions(33))),
         (6, bytes("T|1 T|1 J|I|0|1 C|0|0|=|1|1")),
         (7, bytes("T|1 T|1 J|I|0|1 K|0|0|=|1")),
+        (13, linked_columns(16)),
+        (13, linked_columns(32)),
+        (6, linked_columns(33)),
         (9, bytes("T|1 D|1 T|1 D|1 T|1 D|1 J|L|0|1 C|0|0|=|1|0 J|I|3|2 C|0|0|=|2|0 P|0|1")),
         (11, all_match(16, 17)),
     ]

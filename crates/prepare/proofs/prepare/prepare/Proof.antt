@@ -1,6 +1,6 @@
 -- `prepare::prepare::prepare` meets its contract: the refusal of questions 2 to 7 and 12, or those behind them. Assumes nothing.
 use borrow.Author.Needs.{needs}
-use Rattle.prepare.proofs.laws.AcceptLaws.{text-well}
+use Rattle.prepare.proofs.laws.AcceptLaws.{full-ready}
 use Rattle.prepare.proofs.laws.PassedLaws.{counted, five-kept}
 use Rattle.prepare.specs.inner.Prepare.{away, passed}
 use Rattle.prepare.proofs.prepare.prepare.Statement.{statement}
@@ -22,8 +22,7 @@ plan-query-requires : tie.Need-plan-query-requires
 plan-query-requires c κs =
     let x = c .before .before .before .before .accept .ensures in
     let e = c .enum-told .given .1 in
-    let k = x .kept e .stands in
-    (counted k (text-well x e) (x .asked e), five-kept k (text-well x e) (x .asked e))
+    (counted (full-ready x e), five-kept (full-ready x e), x .full e .within)
 
 same-length : tie.Need-same-length
 same-length c = search needs

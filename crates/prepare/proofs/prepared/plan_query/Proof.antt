@@ -14,8 +14,8 @@ turned-away-requires c κs = search needs
 returns : tie.Need-returns
 returns c = nine-away _ (c .before .before .order-built .ensures) (not-true _ (c .before .if1 .taken)) (c .turned-away .ensures)
 
-blanking-sets-requires : tie.Need-blanking-sets-requires
-blanking-sets-requires c κs = search needs
+closed-sets-requires : tie.Need-closed-sets-requires
+closed-sets-requires c κs = search needs
 
 steps-of-requires : tie.Need-steps-of-requires
 steps-of-requires c κs =
@@ -23,13 +23,13 @@ steps-of-requires c κs =
     let p = t .before .before .pre in
     let e = t .before .order-built .ensures in
     let h = not-false _ (t .if1 .left) in
-    (p .0, c .blanking-sets .ensures, p .1, nine-yes _ e h, pairs-room _ e h)
+    (p .0, c .closed-sets .ensures, p .1, nine-yes _ e h, pairs-room _ e h, p .2)
 
 returns-2 : tie.Need-returns-2
 returns-2 c =
     let b = c .before in
     let t = b .before in
-    all-planned _ (t .before .order-built .ensures) (not-false _ (t .if1 .left)) (ready-parts _ (b .blanking-sets .ensures) (c .steps-of .ensures))
+    all-planned _ (t .before .order-built .ensures) (not-false _ (t .if1 .left)) (ready-parts _ (b .closed-sets .ensures) (c .steps-of .ensures))
 
 pub plan-query-spec : {M : Type 1} → statement M
 plan-query-spec =
@@ -38,6 +38,6 @@ plan-query-spec =
     order-built-requires
     turned-away-requires
     returns
-    blanking-sets-requires
+    closed-sets-requires
     steps-of-requires
     returns-2)
