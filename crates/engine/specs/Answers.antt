@@ -1,4 +1,5 @@
--- What the engine and the direct reading answer to a text: document 01, "Questions, in order". Specification 9.1. Assumes nothing.
+-- What the engine and the direct reading answer to a text: document 01, "Questions, in order", and document 02, item 6: the plan is that of
+-- the report with its derived conditions, the direct reading that of the text as written. Specification 9.1. Assumes nothing.
 use mathlib.Core.List.{List, map}
 use mathlib.Core.Option.{Option, none, some}
 use Prim.Native.Nat.{ℕ}
@@ -11,7 +12,8 @@ use Rattle.vocabulary.specs.declared.facts.Tally.{Tally}
 use Rattle.vocabulary.specs.declared.step.Step.{Step}
 use Rattle.text.specs.Bytes.{Bytes}
 use Rattle.text.specs.Reading.{readReport}
-use Rattle.plan.specs.Sets.{blankingSets}
+use Rattle.plan.specs.Plan.{closedSets}
+use Rattle.plan.specs.Full.{fullReport}
 use Rattle.prepare.specs.Asking.{questionsOfReport, questionsOfDirect}
 use Rattle.executor.specs.Runs.{question11, question11Direct, reportRows, reportSteps, directRows}
 
@@ -22,7 +24,7 @@ pub data Outcome (A : Type 0) : Type 0 where
 
 -- what the engine and the direct reading are asked, behind question 2. Specification 9.2
 unfoldable pub reportQuestions : List (Question Report)
-reportQuestions = questionsOfReport (λ (r : Report). question11 r)
+reportQuestions = questionsOfReport (λ (r : Report). question11 (fullReport r))
 
 -- Specification 9.2
 unfoldable pub directQuestions : List (Question Report)
@@ -45,9 +47,13 @@ pub record ReportAnswer : Type 0 where
   pub steps : List Step
   pub rows : List Row
 
--- Specification 10.7
+-- the answer of a report, given all its conditions, by its plan. Specification 10.7
+unfoldable pub planAnswer : Report → ReportAnswer
+planAnswer r = record { sets = map bitsOf (closedSets (queryOf r)); tallies = tallies r; steps = reportSteps r; rows = reportRows r }
+
+-- the answer of a text's report: of the report with its derived conditions. Specification 6.9, 10.7
 unfoldable pub reportAnswer : Report → ReportAnswer
-reportAnswer r = record { sets = map bitsOf (blankingSets (queryOf r)); tallies = tallies r; steps = reportSteps r; rows = reportRows r }
+reportAnswer r = planAnswer (fullReport r)
 
 -- the engine's outcome for a text. Specification 9.1
 unfoldable pub reportOutcome : Bytes → Outcome ReportAnswer

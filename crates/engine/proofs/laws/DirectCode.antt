@@ -15,7 +15,7 @@ use Rattle.text.specs.Bytes.{Bytes}
 use Rattle.prepare.specs.inner.Accept.{numberIn, KeptText, Accepts}
 use Rattle.prepare.specs.declared.accept.AcceptAnswer as Accept
 use Rattle.prepare.specs.declared.accept.AcceptOutcome.the-variants as O
-use Rattle.prepare.proofs.laws.AcceptLaws.{text-passed, text-well}
+use Rattle.prepare.proofs.laws.AcceptLaws.{text-passed, text-ready}
 use Rattle.joins.specs.inner.Work.{workspace}
 use Rattle.joins.specs.declared.join.Joined.{Joined}
 use Rattle.joins.specs.declared.join.Joined.the-variants as J
@@ -66,7 +66,7 @@ module _ {bs : Bytes} {before after : List ℤ} {x : Accept.AcceptAnswer} (h : A
     kept = h .kept e
 
     pub text-readable : Readable (x .query)
-    text-readable = readable (kept .stands) (text-well h e) (h .asked e)
+    text-readable = readable (text-ready h e)
 
     tables-read : x .query .«table_count» ≡ tableCountOf bs
     unfolding tableCountOf tableCount queryOf
@@ -86,7 +86,7 @@ module _ {bs : Bytes} {before after : List ℤ} {x : Accept.AcceptAnswer} (h : A
     pub text-read : {w w′ : List ℕ} {a : Answer} → cellRoom ≤ length before
         → TreeRead (workspace after (x .query .layout) (x .query .conditions)) (x .query) w w′ a → Gave (directOutcome bs) w w′ a
     text-read {w} {w′} {a} room t =
-        direct-passed bs (kept .read) (kept .stands) (text-passed h e room) w w′ a
+        direct-passed bs (kept .read) (text-ready h e) (text-passed h e room) w w′ a
         (subst (λ (cells : List ℤ). TreeRead (workspace cells (x .query .layout) (x .query .conditions)) (x .query) w w′ a) (kept .buffer room) t)
 
 -- ---- a call

@@ -15,14 +15,13 @@ use Rattle.vocabulary.specs.Asking.{Question, firstNo}
 use Rattle.vocabulary.proofs.laws.AskingLaws.{none-left, none-then, asked-no, asked-yes}
 use Rattle.vocabulary.specs.Report.{Report, Query, queryOf, tableCount}
 use Rattle.vocabulary.specs.Nodes.{joinTree}
-use Rattle.vocabulary.proofs.laws.WellRead.{WellRead}
 use Rattle.vocabulary.specs.inner.Stands.{Stands}
 use Rattle.vocabulary.specs.declared.query.StoredQuery.{StoredQuery}
 use Rattle.text.specs.Bytes.{Bytes}
 use Rattle.text.specs.Reading.{readReport}
 use Rattle.prepare.specs.Asking.{questionsOfDirect, sharedQuestions}
 use Rattle.prepare.specs.inner.Accept.{refusal}
-use Rattle.prepare.proofs.laws.PassedLaws.{read-well, shared-passed}
+use Rattle.prepare.proofs.laws.PassedLaws.{Ready}
 use Rattle.joins.specs.inner.Work.{workspace}
 use Rattle.joins.specs.declared.join.Joined.{Joined}
 use Rattle.joins.specs.declared.join.Joined.the-variants as J
@@ -54,13 +53,13 @@ unfolding directOutcome directQuestions questionsOfDirect answerFor resultFor
 direct-early bs n w e = gave (refused n) (refused-early last directRows bs n e) refl refl
 
 -- a text that they do not turn down, of which this is kept
-module _ (bs : Bytes) {s : StoredQuery} {cells : List ℤ} {r : Report} (read : readReport bs ≡ some r) (k : Stands s cells r)
+module _ (bs : Bytes) {s : StoredQuery} {cells : List ℤ} {r : Report} (read : readReport bs ≡ some r) (ready : Ready s cells r)
     (yes : firstNo sharedQuestions r ≡ none) where
+  abbrev k : Stands s cells r
+  k = ready .stands
+
   abbrev q : Query
   q = queryOf r
-
-  well : WellRead q
-  well = read-well bs r read
 
   asked : firstNo directQuestions r ≡ firstNo last r
   unfolding directQuestions questionsOfDirect
@@ -84,7 +83,7 @@ module _ (bs : Bytes) {s : StoredQuery} {cells : List ℤ} {r : Report} (read : 
   answer-11 : readOf W (joinTree q) ≡ (if question11Direct r then J.Rows (length found) else J.TooMany)
   answer-11 =
       read-answer W (joinTree q)
-      ∙ ap₂ (λ (b : Bool) (n : ℕ). if b then J.Rows n else J.TooMany) (within-eleven k well yes) (sym (length-ordered (rowsOf W (joinTree q))))
+      ∙ ap₂ (λ (b : Bool) (n : ℕ). if b then J.Rows n else J.TooMany) (within-eleven ready) (sym (length-ordered (rowsOf W (joinTree q))))
 
   module _ (w w′ : List ℕ) (a : Answer) where
     handed : (j : Joined) → a ≡ elevenOf j → Handed (readOf W (joinTree q)) found (tableCount q) w w′ j → Gave (directOutcome bs) w w′ a
@@ -94,8 +93,8 @@ module _ (bs : Bytes) {s : StoredQuery} {cells : List ℤ} {r : Report} (read : 
         go : (b : Bool) → question11Direct r ≡ b → Gave (directOutcome bs) w w′ a
         go true f =
             let x : j ≡ J.Rows (length found) = h .answer ∙ answer-11 ∙ rw f in
-            gave (answered (directRows r)) (outcome-rows f) (e ∙ ap elevenOf x ∙ ap Rows (direct-count k well yes))
-            (h .written (length found) x .1 ∙ rw (direct-numbers k well yes))
+            gave (answered (directRows r)) (outcome-rows f) (e ∙ ap elevenOf x ∙ ap Rows (direct-count ready))
+            (h .written (length found) x .1 ∙ rw (direct-numbers ready))
         go false f =
             let x : j ≡ J.TooMany = h .answer ∙ answer-11 ∙ rw f in
             gave (refused 11) (outcome-11 f) (e ∙ ap elevenOf x) (h .refused x)
@@ -105,4 +104,4 @@ module _ (bs : Bytes) {s : StoredQuery} {cells : List ℤ} {r : Report} (read : 
     direct-passed t =
         handed (t .joined) (t .answer)
         (subst (λ (n : ℕ). Handed (readOf W (joinTree q)) found n w w′ (t .joined)) (k .table-count)
-        (subst (λ (E : Tree ℕ). Handed (readOf W E) (ordered (rowsOf W E)) (s .«table_count») w w′ (t .joined)) (tree-kept k well (shared-passed r yes)) (t .handed)))
+        (subst (λ (E : Tree ℕ). Handed (readOf W E) (ordered (rowsOf W E)) (s .«table_count») w w′ (t .joined)) (tree-kept ready) (t .handed)))

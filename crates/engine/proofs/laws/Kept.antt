@@ -1,5 +1,5 @@
--- A stored query that stands for a report which no question of both runs turns down: what the direct reading takes, and its tree; the
--- whole query where its order is admitted too. Assumes nothing.
+-- A stored query that is ready to be run: what the direct reading takes, and its tree; the whole query where its order is admitted too.
+-- Assumes nothing.
 use mathlib.Core.Path.{_≡_, refl, sym, ap, ap₂, _∙_, subst}
 use mathlib.Core.Bool.{_&&_}
 use mathlib.Core.List.{List, map}
@@ -19,7 +19,6 @@ use Rattle.vocabulary.specs.Asking.{firstNo}
 use Rattle.vocabulary.proofs.laws.AskingLaws.{all-yes}
 use Rattle.vocabulary.specs.Nodes.{treeOf, treesOf, treeAt, lastTree, joinTrees, joinTree, lowerSides, sidesOf, noneTwice, wellBuilt}
 use Rattle.vocabulary.proofs.laws.NodeLaws.{grown-length}
-use Rattle.vocabulary.proofs.laws.WellRead.{WellRead}
 use Rattle.vocabulary.specs.Report.{Join, Query, Report, queryOf, tableCount, tableNumbers, joinPairs}
 use Rattle.vocabulary.specs.inner.Stands.{Stands}
 use Rattle.vocabulary.specs.inner.Stored.{joinIn, queryIn, noJoin}
@@ -30,12 +29,14 @@ use Rattle.plan.proofs.laws.QueryLaws.{query-matched, query-built}
 use Rattle.index.specs.inner.Columns.{rowCounts}
 use Rattle.questions.proofs.laws.Kept.{room-of}
 use Rattle.questions.proofs.laws.Whole.{whole-trees, whole-nine, whole-query}
-use Rattle.prepare.specs.inner.Accept.{Passed}
-use Rattle.prepare.proofs.laws.PassedLaws.{tables-rows, counted, few-joins, ok}
+use Rattle.prepare.proofs.laws.PassedLaws.{Ready, few-joins, layout-rows}
 use Rattle.executor.specs.inner.Reading.{Readable, joinAt}
 use Rattle.executor.proofs.laws.StepRows.{lower-sides}
 
-module _ {s : StoredQuery} {cells : List ℤ} {r : Report} (k : Stands s cells r) (well : WellRead (queryOf r)) (yes : Passed r) where
+module _ {s : StoredQuery} {cells : List ℤ} {r : Report} (ready : Ready s cells r) where
+  abbrev k : Stands s cells r
+  k = ready .stands
+
   abbrev q : Query
   q = queryOf r
 
@@ -46,27 +47,27 @@ module _ {s : StoredQuery} {cells : List ℤ} {r : Report} (k : Stands s cells r
   unfolding wellBuilt joinAt joinIn queryIn
   sides i h =
       let n : ℕ = tableCount q in
-      let (x, _) = and-yes (eqb (suc (length (joinPairs q))) n && lowerSides n (joinPairs q)) (noneTwice (sidesOf (joinPairs q))) (query-built q (ok k well yes)) in
+      let (x, _) = and-yes (eqb (suc (length (joinPairs q))) n && lowerSides n (joinPairs q)) (noneTwice (sidesOf (joinPairs q))) (query-built q (ready .accepted)) in
       let (_, lower) = and-yes (eqb (suc (length (joinPairs q))) n) (lowerSides n (joinPairs q)) x in
-      let same : queryIn s .joins ≡ q .joins = k .joins ∙ take-all mostJoins (q .joins) (omega (arith, k .join-count, (few-joins k well yes))) in
+      let same : queryIn s .joins ≡ q .joins = k .joins ∙ take-all mostJoins (q .joins) (omega (arith, k .join-count, (few-joins ready))) in
       let at : getD (q .joins) i (joinIn noJoin) ≡ joinIn (getD (s .joins) i noJoin) =
       ap (λ (js : List Join). getD js i (joinIn noJoin)) (sym same)
-      ∙ kept-at joinIn (s .«join_count») (s .joins) i noJoin (joinIn noJoin) h (omega (arith, (few-joins k well yes), k .join-room)) in
+      ∙ kept-at joinIn (s .«join_count») (s .joins) i noJoin (joinIn noJoin) h (omega (arith, (few-joins ready), k .join-room)) in
       rw (k .table-count) (subst (λ (j : Join). (j .left < n + i) × (j .right < n + i)) at
-      (lower-sides (query-matched q (ok k well yes)) n lower i (joinIn noJoin) (omega (arith, k .join-count, h))))
+      (lower-sides (query-matched q (ready .accepted)) n lower i (joinIn noJoin) (omega (arith, k .join-count, h))))
 
   pub readable : Readable s
   unfolding tableCount joinAt rowCounts
   readable = record {
     tables = k .few;
     width = ap length (k .columns) ∙ sym (k .table-count);
-    joins = few-joins k well yes;
-    room = omega (arith, (few-joins k well yes), k .join-room);
-    conditions = counted k well yes .conditions;
-    rows = λ t h. tables-rows k (yes .0) t;
+    joins = few-joins ready;
+    room = omega (arith, (few-joins ready), k .join-room);
+    conditions = ready .conditions;
+    rows = λ t h. layout-rows ready t;
     left = λ i h. sides i h .0;
     right = λ i h. sides i h .1;
-    ranges = λ i h. k .ranges (few-joins k well yes) i h noJoin;
+    ranges = λ i h. k .ranges (few-joins ready) i h noJoin;
   }
 
   -- ---- the tree
@@ -79,7 +80,7 @@ module _ {s : StoredQuery} {cells : List ℤ} {r : Report} (k : Stands s cells r
 
   pub tree-kept : treeAt (joinTrees (queryIn s)) (s .«table_count» + s .«join_count» - 1) ≡ joinTree q
   unfolding joinTree lastTree
-  tree-kept = ap₂ treeAt (whole-trees k (few-joins k well yes)) (ap (λ (n : ℕ). n - 1) (sym nodes-kept))
+  tree-kept = ap₂ treeAt (whole-trees k (few-joins ready)) (ap (λ (n : ℕ). n - 1) (sym nodes-kept))
 
   -- ---- the order, where what is asked about it is answered yes
 
@@ -94,4 +95,4 @@ module _ {s : StoredQuery} {cells : List ℤ} {r : Report} (k : Stands s cells r
     -- nothing was left out
     pub query-kept : queryIn s ≡ q
     query-kept =
-        whole-query k (few-joins k well yes) (counted k well yes .conditions) (room-of (s .«pair_count») mostPairs (question9 (queryIn s)) (whole-nine k ∙ is-true _ nine-yes))
+        whole-query k (few-joins ready) (ready .conditions) (room-of (s .«pair_count») mostPairs (question9 (queryIn s)) (whole-nine k ∙ is-true _ nine-yes))

@@ -11,8 +11,7 @@ use Rattle.cells.specs.Limits.{areas}
 use Rattle.vocabulary.specs.Report.{joinOrder, Query}
 use Rattle.vocabulary.specs.inner.Stored.{queryIn}
 use Rattle.vocabulary.specs.declared.query.StoredQuery.{StoredQuery}
-use Rattle.plan.specs.Sets.{blankingSets}
-use Rattle.plan.specs.Plan.{groundOf, planTrees, blankings, stepsOf}
+use Rattle.plan.specs.Plan.{closedSets, groundOf, planTrees, blankings, stepsOf}
 use Rattle.plan.specs.inner.StepWords.{listed, withRows}
 use Rattle.plan.proofs.laws.RowCounts.{countedSteps, no-rows, rows-next, all-rows}
 use Rattle.plan.specs.declared.steps.Plan.{Plan}
@@ -31,7 +30,7 @@ pub record StepsRun (cells : List ℤ) (q : StoredQuery) (w w′ : List ℕ) (r 
   pub joined : Joined
   pub long : length counts ≡ areas
   pub ran : PlanRan (workspace cells (q .layout) (q .conditions)) (planTrees (groundOf (queryIn q))) (q .«table_count») (q .«table_count» - 1) (blankings (groundOf (queryIn q))) counts w w′ joined
-  pub handed : r ≡ handedOver q (factsIn q (setWords (blankingSets (queryIn q))) cells) (listed (stepsOf (groundOf (queryIn q)) (replicate (length (joinOrder (queryIn q))) 0)))
+  pub handed : r ≡ handedOver q (factsIn q (setWords (closedSets (queryIn q))) cells) (listed (stepsOf (groundOf (queryIn q)) (replicate (length (joinOrder (queryIn q))) 0)))
       counts joined
 
 -- ---- an outcome

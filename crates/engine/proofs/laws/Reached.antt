@@ -3,7 +3,6 @@
 use mathlib.Core.Path.{_≡_, refl, ap, _∙_}
 use mathlib.Core.Bool.{_&&_}
 use mathlib.Core.List.{List, [], flatMap}
-use mathlib.Core.Option.{none}
 use Prim.Native.Nat.{ℕ, suc, _<_, _≤_}
 use lib.Dec.{T, leb, eqb}
 use lib.IntN.{ℤ}
@@ -17,11 +16,9 @@ use Rattle.rows.specs.Rows.{ordered}
 use Rattle.rows.specs.Nullification.{finished, planRows}
 use Rattle.rows.specs.Trees.{Database, Tree, leaf, join, rowsOf}
 use Rattle.rows.proofs.laws.ShapesLaws.{Lawful, Shaped}
-use Rattle.vocabulary.specs.Asking.{firstNo}
 use Rattle.vocabulary.specs.Database.{databaseOf, rowCountIn, cellsOf, database}
 use Rattle.vocabulary.specs.Report.{Report, Query, queryOf, tableCount, joinOrder}
 use Rattle.vocabulary.specs.Nodes.{treeAt, treeOf, joinTrees, joinTree, lowerSides, sidesOf, noneTwice, wellBuilt}
-use Rattle.vocabulary.proofs.laws.WellRead.{WellRead}
 use Rattle.vocabulary.specs.inner.Stands.{Stands}
 use Rattle.vocabulary.specs.declared.query.StoredQuery.{StoredQuery}
 use Rattle.plan.specs.Plan.{groundOf, planTrees, planTree, blankings}
@@ -29,8 +26,7 @@ use Rattle.plan.specs.Questions.{question9}
 use Rattle.plan.proofs.laws.BuiltLaws.{from-whole}
 use Rattle.plan.proofs.laws.PlanLaws.{plan-matched, order-built}
 use Rattle.plan.proofs.laws.QueryLaws.{Accepted, query-matched, query-built}
-use Rattle.prepare.specs.Asking.{sharedQuestions}
-use Rattle.prepare.proofs.laws.PassedLaws.{three-yes, report-accepted, rows-limit, few-rows, shared-passed, counted}
+use Rattle.prepare.proofs.laws.PassedLaws.{Ready, few-numbers}
 use Rattle.joins.specs.inner.Work.{workspace}
 use Rattle.executor.proofs.laws.DatabaseLaws.{lawful}
 use Rattle.executor.proofs.laws.LimitLaws.{withinTree, whole-results, results-whole}
@@ -38,15 +34,18 @@ use Rattle.executor.proofs.laws.Padding.{pad}
 use Rattle.executor.specs.Runs.{results, withinLimit, directRows, question11Direct, runRows, reportRows}
 use Rattle.engine.proofs.laws.Seen.{rows-seen, numbers-seen, count-seen, query-tree, plan-tree}
 
-module _ {s : StoredQuery} {cells : List ℤ} {r : Report} (k : Stands s cells r) (well : WellRead (queryOf r)) (yes : firstNo sharedQuestions r ≡ none) where
+module _ {s : StoredQuery} {cells : List ℤ} {r : Report} (ready : Ready s cells r) where
+  abbrev k : Stands s cells r
+  k = ready .stands
+
   abbrev q : Query
   q = queryOf r
 
   ok : Accepted q
-  ok = report-accepted r yes well
+  ok = ready .accepted
 
   abbrev small : (t : ℕ) → rowCountIn r t ≤ blankRow
-  small = few-rows r (three-yes r yes)
+  small = few-numbers ready
 
   abbrev laws : Lawful (databaseOf q (rowCountIn r) (cellsOf r))
   laws = lawful q (rowCountIn r) (cellsOf r) small
@@ -56,7 +55,7 @@ module _ {s : StoredQuery} {cells : List ℤ} {r : Report} (k : Stands s cells r
 
   -- a tree's joins have as many rows in work space as in the report's tables
   rows-count : (E : Tree ℕ) → Shaped laws E → length (rowsOf W E) ≡ length (rowsOf (database r) E)
-  rows-count E h = ap length (rows-seen k (counted k well (shared-passed r yes) .conditions) small E h) ∙ length-map (rowsOf (database r) E) (pad _)
+  rows-count E h = ap length (rows-seen k (ready .conditions) small E h) ∙ length-map (rowsOf (database r) E) (pad _)
 
   within-seen : (E : Tree ℕ) → Shaped laws E → withinTree W E ≡ withinTree (database r) E
   unfolding withinTree rowsOf
@@ -67,13 +66,13 @@ module _ {s : StoredQuery} {cells : List ℤ} {r : Report} (k : Stands s cells r
 
   few-each : (t : ℕ) → database r .rowCount t ≤ mostRows
   unfolding database databaseOf
-  few-each t = rows-limit r (three-yes r yes) t
+  few-each t = ready .rows t
 
   -- every join on the way has few rows exactly if question 11 is answered yes
   pub within-eleven : withinTree W (joinTree q) ≡ question11Direct r
   unfolding question11Direct withinLimit results joinTree joinTrees
   within-eleven =
-      within-seen (joinTree q) (query-tree k (counted k well (shared-passed r yes) .conditions) small ok)
+      within-seen (joinTree q) (query-tree k (ready .conditions) small ok)
       ∙ same-test (withinTree (database r) (joinTree q)) (all (λ (rows : List Row). leb (length rows) mostRows) (results r (joinTrees q)))
       (λ h. whole-results (database r) few-each q (query-matched q ok) (query-built q ok) h)
       (λ h. results-whole (database r) few-each q (query-matched q ok) (query-built q ok) h)
@@ -82,12 +81,12 @@ module _ {s : StoredQuery} {cells : List ℤ} {r : Report} (k : Stands s cells r
   pub direct-count : length (ordered (rowsOf W (joinTree q))) ≡ length (directRows r)
   unfolding directRows finished
   direct-count =
-      count-seen k (counted k well (shared-passed r yes) .conditions) small (joinTree q) (query-tree k (counted k well (shared-passed r yes) .conditions) small ok) []
+      count-seen k (ready .conditions) small (joinTree q) (query-tree k (ready .conditions) small ok) []
 
   pub direct-numbers : flatMap (take (tableCount q)) (ordered (rowsOf W (joinTree q))) ≡ flatMap (λ (row : Row). row) (directRows r)
   unfolding directRows finished
   direct-numbers =
-      numbers-seen k (counted k well (shared-passed r yes) .conditions) small (joinTree q) (query-tree k (counted k well (shared-passed r yes) .conditions) small ok) []
+      numbers-seen k (ready .conditions) small (joinTree q) (query-tree k (ready .conditions) small ok) []
 
   -- ---- the plan
 
@@ -104,7 +103,7 @@ module _ {s : StoredQuery} {cells : List ℤ} {r : Report} (k : Stands s cells r
         eqb-yes (and-yes (eqb (suc n) (tableCount q)) (lowerSides (tableCount q) (joinOrder q)) a .0)
 
     shaped : Shaped laws (planTree (groundOf q))
-    shaped = plan-tree k (counted k well (shared-passed r yes) .conditions) small ok nine
+    shaped = plan-tree k (ready .conditions) small ok nine
 
     node-shaped : (i : ℕ) → i < length (planTrees (groundOf q)) → Shaped laws (treeAt (planTrees (groundOf q)) i)
     unfolding planTree planTrees treeOf
@@ -117,8 +116,8 @@ module _ {s : StoredQuery} {cells : List ℤ} {r : Report} (k : Stands s cells r
     -- the rows that are handed over
     pub report-count : length (finished W (blankings (groundOf q)) (rowsOf W (planTree (groundOf q)))) ≡ length (reportRows r)
     unfolding reportRows runRows planRows
-    report-count = count-seen k (counted k well (shared-passed r yes) .conditions) small (planTree (groundOf q)) shaped (blankings (groundOf q))
+    report-count = count-seen k (ready .conditions) small (planTree (groundOf q)) shaped (blankings (groundOf q))
 
     pub report-numbers : flatMap (take (tableCount q)) (finished W (blankings (groundOf q)) (rowsOf W (planTree (groundOf q)))) ≡ flatMap (λ (row : Row). row) (reportRows r)
     unfolding reportRows runRows planRows
-    report-numbers = numbers-seen k (counted k well (shared-passed r yes) .conditions) small (planTree (groundOf q)) shaped (blankings (groundOf q))
+    report-numbers = numbers-seen k (ready .conditions) small (planTree (groundOf q)) shaped (blankings (groundOf q))

@@ -13,13 +13,14 @@ use mir.Facts.{and-yes, leb-yes}
 use Rattle.cells.specs.Limits.{cellRoom, workRoom, resultRoom, stepListRoom, mostSteps}
 use Rattle.rows.specs.Lists.{all}
 use Rattle.vocabulary.specs.Asking.{firstNo, numbersOf}
-use Rattle.vocabulary.specs.Report.{queryOf}
+use Rattle.vocabulary.specs.Report.{Report, queryOf}
 use Rattle.vocabulary.proofs.laws.AskingLaws.{no-positive}
 use Rattle.vocabulary.specs.Steps.{zeroStep}
 use Rattle.vocabulary.specs.declared.query.StoredQuery.{StoredQuery}
 use Rattle.vocabulary.specs.Facts.{noFacts}
 use Rattle.vocabulary.specs.declared.step.Step.{Step}
 use Rattle.text.specs.Bytes.{Bytes}
+use Rattle.plan.specs.Full.{fullReport}
 use Rattle.plan.specs.Questions.{orderQuestions}
 use Rattle.plan.specs.inner.StepWords.{listed}
 use Rattle.plan.specs.declared.steps.Plan.{Plan}
@@ -28,8 +29,8 @@ use Rattle.prepare.specs.declared.accept.AcceptAnswer as Accept
 use Rattle.prepare.specs.declared.accept.AcceptOutcome.the-variants as O
 use Rattle.prepare.specs.inner.Prepared.{turnedAway, readyFor, readyBy}
 use Rattle.prepare.specs.declared.prepared.Prepared.{Prepared}
-use Rattle.prepare.proofs.laws.AcceptLaws.{text-well, text-passed}
-use Rattle.prepare.proofs.laws.PassedLaws.{five-kept, tables-rows}
+use Rattle.prepare.proofs.laws.AcceptLaws.{text-passed, full-ready}
+use Rattle.prepare.proofs.laws.PassedLaws.{Ready, five-kept, layout-rows}
 use Rattle.prepare.specs.inner.Prepare.{Prepares, away, passed}
 use Rattle.step_list.specs.inner.Laid.{laid}
 use Rattle.step_list.proofs.laws.LaidLaws.{laid-out}
@@ -39,9 +40,8 @@ use Rattle.step_list.specs.declared.state.State.{State}
 use Rattle.engine.specs.Answers.{reportOutcome, Outcome, refused, answered, ReportAnswer}
 use Rattle.engine.proofs.laws.Bounds.{report-bounded}
 use Rattle.engine.specs.Calls.{Lent, ReportCall, laidOut, question1Direct, question1, cleared, reportAfter, reportCall}
-use Rattle.engine.proofs.laws.DirectCode.{text-readable}
 use Rattle.engine.specs.inner.Gave.{lentParts}
-use Rattle.engine.proofs.laws.Kept.{nine-kept}
+use Rattle.engine.proofs.laws.Kept.{readable, nine-kept}
 use Rattle.engine.specs.inner.Planning.{turnedDown, asCall, refusedReply, answeredWith}
 use Rattle.engine.proofs.laws.PlanningLaws.{StepsRun, Reported, concludedFor, resultAfter}
 use Rattle.engine.specs.inner.Preparing.{QueryWithin, Within, Ends, byValue, enoughLent, Concludes}
@@ -71,16 +71,12 @@ unfolding numberIn
 early h room e = sym (h .answer room) ∙ ap numberIn e
 
 pub prepared-within : {bs : Bytes} {before after : List ℤ} {p : Prepared} → Prepares bs before after p → Within p
-prepared-within {p = p} (away {a} {n} h e z) f = absurd (omega (arith, h .positive n e, away-number p (a .query) n z, f))
+prepared-within {p = p} (away {a} {n} h e z) f = absurd (omega (arith, h .positive n e, away-number p (a .full) n z, f))
 prepared-within {p = p} (passed {a} h e z) f =
-    let x = h .kept e .stands in
-    let same : p .query ≡ a .query = ap (λ (y : Prepared). y .query) (z _ _ x) ∙ by-query (a .query) _ in
-    subst QueryWithin (sym same) (record {
-      some = x .some;
-      tables = x .few;
-      conditions = text-readable h e .conditions;
-      rows = tables-rows x (h .asked e .0);
-    })
+    let k = full-ready h e in
+    let x = k .stands in
+    let same : p .query ≡ a .full = ap (λ (y : Prepared). y .query) (z _ _ x) ∙ by-query (a .full) _ in
+    subst QueryWithin (sym same) (record { some = x .some; tables = x .few; conditions = k .conditions; rows = layout-rows k })
 
 module _ (bs : Bytes) (before after : List ℤ) (p : Prepared) (room : cellRoom ≤ length before) (n : ℕ) (enough : stepListRoom ≤ n)
     (w w′ v v′ : List ℕ) (long : workRoom ≤ length w) (wide : resultRoom ≤ length v) (r : State) (h : Concluded) where
@@ -97,19 +93,24 @@ module _ (bs : Bytes) (before after : List ℤ) (p : Prepared) (room : cellRoom 
   prepared-run : Prepares bs before after p → Ran p → Ends p r after w′ v v′ h → Reported (reportOutcome bs) v v′ h
   unfolding readyBy readyFor orderQuestions numbersOf all
   prepared-run (away {a} {n = i} x e z) run end =
-      turned (a .query) i z (x .positive i e) end (λ u f. report-early bs i u (early x room e) f)
-  prepared-run (passed {a} x e z) run end = go (firstNo orderQuestions (queryOf (k .report))) refl (z _ _ (k .stands))
+      turned (a .full) i z (x .positive i e) end (λ u f. report-early bs i u (early x room e) f)
+  prepared-run (passed {a} x e z) run end = go (firstNo orderQuestions (queryOf full)) refl (z _ _ (ready .stands))
     where
       k : KeptText bs before after (a .query)
       k = x .kept e
 
-      go : (o : Option ℕ) → firstNo orderQuestions (queryOf (k .report)) ≡ o → p ≡ readyBy (a .query) o → Reported (reportOutcome bs) v v′ h
-      go (some i) f y = turned (a .query) i y (no-positive orderQuestions (queryOf (k .report)) i tt f) end
-          (λ u g. report-order bs (k .read) (k .stands) (text-passed x e room) i u f g)
-      go none f y = report-ran bs (k .read) (k .stands) (text-passed x e room) f v v′
-          (subst (λ (cells : List ℤ). StepsRun cells (a .query) v v′ h) (k .buffer room)
-          (ready-run (a .query) (text-readable x e) (five-kept (k .stands) (text-well x e) (x .asked e))
-          (nine-kept (k .stands) (text-well x e) (x .asked e) f) after n enough w w′ v v′ long wide r h
+      full : Report
+      full = fullReport (k .report)
+
+      ready : Ready (a .full) (k .cells) (fullReport (k .report))
+      ready = full-ready x e
+
+      go : (o : Option ℕ) → firstNo orderQuestions (queryOf full) ≡ o → p ≡ readyBy (a .full) o → Reported (reportOutcome bs) v v′ h
+      go (some i) f y = turned (a .full) i y (no-positive orderQuestions (queryOf full) i tt f) end
+          (λ u g. report-order bs (k .read) ready (text-passed x e room) i u f g)
+      go none f y = report-ran bs (k .read) ready (text-passed x e room) f v v′
+          (subst (λ (cells : List ℤ). StepsRun cells (a .full) v v′ h) (k .buffer room)
+          (ready-run (a .full) (readable ready) (five-kept ready) (nine-kept ready f) after n enough w w′ v v′ long wide r h
           (subst Ran y run) (subst (λ (u : Prepared). Ends u r after w′ v v′ h) y end)))
 
 -- ---- a call

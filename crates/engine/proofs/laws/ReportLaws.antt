@@ -1,8 +1,8 @@
 -- The run of a plan as the code does it gives the outcome that document 01 defines. Assumes nothing.
 use mathlib.Core.Path.{_≡_, sym, ap, _∙_, refl, ap₂, subst}
-use mathlib.Core.Bool.{true, false}
+use mathlib.Core.Bool.{Bool, true, false}
 use mathlib.Core.List.{List, [], _∷_, _++_, append-assoc, map, flatMap}
-use mathlib.Core.Option.{some, none}
+use mathlib.Core.Option.{Option, some, none}
 use Prim.Native.Nat.{ℕ, _-_, _≤_, suc, _+_, _<_}
 use native.Mathlib.Omega.{arith}
 use lib.Dec.{T, leb, le→leb, not-T}
@@ -29,7 +29,6 @@ use Rattle.vocabulary.specs.declared.facts.Tally.{Tally}
 use Rattle.vocabulary.specs.Report.{Report, queryOf, Query, joinOrder, tableCount, tableNumbers}
 use Rattle.vocabulary.specs.Nodes.{treeOf, treesOf, treeAt, lastTree}
 use Rattle.vocabulary.proofs.laws.NodeLaws.{grown-length}
-use Rattle.vocabulary.proofs.laws.WellRead.{WellRead}
 use Rattle.vocabulary.specs.inner.Stands.{Stands}
 use Rattle.vocabulary.specs.Steps.{bitsOf}
 use Rattle.vocabulary.specs.inner.Stored.{queryIn}
@@ -37,15 +36,18 @@ use Rattle.vocabulary.specs.declared.query.StoredQuery.{StoredQuery}
 use Rattle.text.specs.Bytes.{Bytes}
 use Rattle.text.specs.Reading.{readReport}
 use Rattle.plan.specs.Questions.{orderQuestions, question9}
-use Rattle.plan.specs.Sets.{blankingSets, Sets, setOf}
-use Rattle.plan.specs.Plan.{groundOf, stepsOf, plannedJoins, planTrees, planTree, blankings}
-use Rattle.plan.proofs.laws.FoldWords.{blanking-proper}
+use Rattle.plan.specs.Sets.{Sets, setOf}
+use Rattle.plan.specs.Full.{fullReport}
+use Rattle.plan.proofs.laws.FullLaws.{nine-same}
+use Rattle.plan.specs.Plan.{closedSets, groundOf, stepsOf, plannedJoins, planTrees, planTree, blankings}
+use Rattle.plan.proofs.laws.ClosedSetLaws.{sets-proper}
 use Rattle.plan.proofs.laws.PairWordLaws.{planned-count}
 use Rattle.plan.specs.inner.StepWords.{listed}
 use Rattle.plan.specs.inner.Words.{setWords, wordsTo}
 use Rattle.prepare.specs.Asking.{sharedQuestions, questionsOfReport}
 use Rattle.prepare.specs.inner.Accept.{refusal}
-use Rattle.prepare.proofs.laws.PassedLaws.{read-well, shared-passed}
+use Rattle.prepare.proofs.laws.PassedLaws.{Ready}
+use Rattle.prepare.proofs.laws.FullStanding.{full-report}
 use Rattle.index.specs.inner.Columns.{rowCounts}
 use Rattle.counts.specs.inner.TallyLists.{talliesIn}
 use Rattle.joins.specs.inner.Work.{workspace}
@@ -54,7 +56,7 @@ use Rattle.joins.specs.declared.join.Joined.the-variants as J
 use Rattle.row_lists.specs.inner.Flat.{flatRows}
 use Rattle.executor.proofs.laws.PlanRuns.{PlanRan, ran, over}
 use Rattle.executor.specs.Runs.{question11, results, withinLimit, reportRows, pairCounts, reportSteps}
-use Rattle.engine.specs.Answers.{Outcome, ReportAnswer, refused, reportQuestions, outcomeBy, reportAnswer, reportOutcome, answered}
+use Rattle.engine.specs.Answers.{Outcome, ReportAnswer, refused, reportQuestions, outcomeBy, planAnswer, reportAnswer, reportOutcome, answered}
 use Rattle.engine.proofs.laws.AnswerLaws.{refused-early, outcome-answered, outcome-refused}
 use Rattle.engine.specs.Calls.{factsWith, factsOf, written}
 use Rattle.engine.proofs.laws.Kept.{nine-yes, query-kept}
@@ -73,7 +75,7 @@ abbrev order : List (Question Report)
 order = about queryOf orderQuestions
 
 abbrev last : List (Question Report)
-last = (11, λ (r : Report). question11 r) ∷ []
+last = (11, λ (r : Report). question11 (fullReport r)) ∷ []
 
 -- a text that a question of both runs turns down
 pub report-early : (bs : Bytes) (n : ℕ) (w : List ℕ) {r : Concluded} → refusal bs ≡ some n → r ≡ turnedDown n → Reported (reportOutcome bs) w w r
@@ -127,39 +129,48 @@ tallies-all {s} {cells} {r} k e =
           (ap₂ (λ (g : ℕ → ℕ) (h : Cells). map (conditionTally g h) (take (s .«condition_count») (s .conditions))) rows same ∙ ap (map f) e) n,
     )
 
--- a text that they do not turn down, of which this is kept
-module _ (bs : Bytes) {s : StoredQuery} {cells : List ℤ} {r : Report} (read : readReport bs ≡ some r) (k : Stands s cells r)
-    (yes : firstNo sharedQuestions r ≡ none) where
+-- the order is asked the same of the report as it is written and with its derived conditions
+order-full : (said : Report) → firstNo orderQuestions (queryOf (fullReport said)) ≡ firstNo orderQuestions (queryOf said)
+unfolding orderQuestions firstNo
+order-full said =
+    ap (λ (b : Bool). elim b as (λ z. Option ℕ) [ true ↦ none | false ↦ some 9 ]) (ap question9 (full-report said) ∙ nine-same (queryOf said))
+
+-- a text that they do not turn down, which says the report `said`; of it with its derived conditions this is kept
+module _ (bs : Bytes) {s : StoredQuery} {cells : List ℤ} {said : Report} (read : readReport bs ≡ some said) (ready : Ready s cells (fullReport said))
+    (yes : firstNo sharedQuestions said ≡ none) where
+  abbrev r : Report
+  r = fullReport said
+
+  abbrev k : Stands s cells r
+  k = ready .stands
+
   abbrev q : Query
   q = queryOf r
 
-  well : WellRead q
-  well = read-well bs r read
-
-  asked : firstNo (sharedQuestions ++ order) r ≡ firstNo orderQuestions q
-  asked = none-then sharedQuestions order r yes ∙ first-about queryOf orderQuestions r
+  asked : firstNo (sharedQuestions ++ order) said ≡ firstNo orderQuestions q
+  asked = none-then sharedQuestions order said yes ∙ first-about queryOf orderQuestions said ∙ sym (order-full said)
 
   -- a question about the order says no
   pub report-order : (n : ℕ) (w : List ℕ) {x : Concluded} → firstNo orderQuestions q ≡ some n → x ≡ turnedDown n → Reported (reportOutcome bs) w w x
   unfolding reportOutcome reportQuestions questionsOfReport concludedFor resultAfter
   report-order n w e f =
       reported (refused n)
-      (outcome-refused (sharedQuestions ++ order ++ last) reportAnswer bs r read n (no-then (sharedQuestions ++ order) last r n (asked ∙ e))) f refl
+      (outcome-refused (sharedQuestions ++ order ++ last) reportAnswer bs said read n (no-then (sharedQuestions ++ order) last said n (asked ∙ e))) f refl
 
   -- ---- question 11, where the order is admitted
 
   module _ (admitted : firstNo orderQuestions q ≡ none) where
-    asked-11 : firstNo reportQuestions r ≡ firstNo last r
+    asked-11 : firstNo reportQuestions said ≡ firstNo last said
     unfolding reportQuestions questionsOfReport
-    asked-11 = none-then (sharedQuestions ++ order) last r (asked ∙ admitted)
+    asked-11 = none-then (sharedQuestions ++ order) last said (asked ∙ admitted)
 
     outcome-11 : question11 r ≡ false → reportOutcome bs ≡ refused 11
     unfolding reportOutcome
-    outcome-11 e = outcome-refused reportQuestions reportAnswer bs r read 11 (asked-11 ∙ asked-no _ _ r e)
+    outcome-11 e = outcome-refused reportQuestions reportAnswer bs said read 11 (asked-11 ∙ asked-no _ _ said e)
 
-    outcome-rows : question11 r ≡ true → reportOutcome bs ≡ answered (reportAnswer r)
+    outcome-rows : question11 r ≡ true → reportOutcome bs ≡ answered (reportAnswer said)
     unfolding reportOutcome
-    outcome-rows e = outcome-answered reportQuestions reportAnswer bs r read (asked-11 ∙ asked-yes _ _ r e ∙ none-left r)
+    outcome-rows e = outcome-answered reportQuestions reportAnswer bs said read (asked-11 ∙ asked-yes _ _ said e ∙ none-left said)
 
     -- work space, over the cells that the text leaves
     abbrev W : Database ℕ
@@ -172,13 +183,13 @@ module _ (bs : Bytes) {s : StoredQuery} {cells : List ℤ} {r : Report} (read : 
     trees = planTrees (groundOf q)
 
     nine : T (question9 q)
-    nine = nine-yes k well (shared-passed r yes) admitted
+    nine = nine-yes ready admitted
 
     tables-few : n ≤ mostTables
     tables-few = omega (arith, k .table-count, k .few)
 
     pairs : suc (length (joinOrder q)) ≡ n
-    pairs = pair-count k well yes nine
+    pairs = pair-count ready nine
 
     nodes : length trees ≡ n + length (joinOrder q)
     unfolding planTrees treesOf tableNumbers
@@ -199,7 +210,7 @@ module _ (bs : Bytes) {s : StoredQuery} {cells : List ℤ} {r : Report} (read : 
 
     -- the rows of pair i, in work space and in the report's tables
     pair-rows : (i : ℕ) → i < length (joinOrder q) → length (rowsOf W (treeAt trees (n + i))) ≡ length (rowsOf (database r) (treeAt trees (n + i)))
-    pair-rows i h = node-count k well yes nine (n + i) (omega (arith, nodes, h))
+    pair-rows i h = node-count ready nine (n + i) (omega (arith, nodes, h))
 
     -- a pair with too many rows
     module _ (i : ℕ) (h : i < length (joinOrder q)) (o : mostRows < length (rowsOf W (treeAt trees (n + i)))) where
@@ -257,34 +268,34 @@ module _ (bs : Bytes) {s : StoredQuery} {cells : List ℤ} {r : Report} (read : 
       unfolding planTree lastTree
       last-node = ap (treeAt trees) (omega (arith, nodes, pairs))
 
-    sets-all : setWords (blankingSets q) ≡ map bitsOf (blankingSets q) ++ replicate (mostTables - length (map bitsOf (blankingSets q))) 0
-    sets-all = sets-words (blankingSets q) (omega (arith, blanking-proper q .each, tables-few))
+    sets-all : setWords (closedSets q) ≡ map bitsOf (closedSets q) ++ replicate (mostTables - length (map bitsOf (closedSets q))) 0
+    sets-all = sets-words (closedSets q) (omega (arith, sets-proper q .each, tables-few))
 
-    tables-all : n ≡ length (map bitsOf (blankingSets q))
-    tables-all = sym (length-map (blankingSets q) bitsOf ∙ blanking-proper q .each)
+    tables-all : n ≡ length (map bitsOf (closedSets q))
+    tables-all = sym (length-map (closedSets q) bitsOf ∙ sets-proper q .each)
 
     -- what stands beside the rows
-    facts-all : factsIn s (setWords (blankingSets (queryIn s))) cells ≡ factsOf (reportAnswer r)
-    unfolding factsIn factsOf reportAnswer
+    facts-all : factsIn s (setWords (closedSets (queryIn s))) cells ≡ factsOf (reportAnswer said)
+    unfolding factsIn factsOf reportAnswer planAnswer
     facts-all =
-        let same = query-kept k well (shared-passed r yes) admitted in
-        let t : s .«table_count» ≡ length (map bitsOf (blankingSets q)) = k .table-count ∙ tables-all in
-        let b : setWords (blankingSets (queryIn s)) ≡ map bitsOf (blankingSets q) ++ replicate (mostTables - length (map bitsOf (blankingSets q))) 0 =
-        ap (λ (z : Query). setWords (blankingSets z)) same ∙ sets-all in
+        let same = query-kept ready admitted in
+        let t : s .«table_count» ≡ length (map bitsOf (closedSets q)) = k .table-count ∙ tables-all in
+        let b : setWords (closedSets (queryIn s)) ≡ map bitsOf (closedSets q) ++ replicate (mostTables - length (map bitsOf (closedSets q))) 0 =
+        ap (λ (z : Query). setWords (closedSets z)) same ∙ sets-all in
         let u = tallies-all k (ap (λ (z : Query). z .conditions) same) in
         λ i. factsWith (t i) (b i) (u .0 i) (u .1 i)
 
     -- the plan run
-    ran-gives : (w w′ : List ℕ) {x : Concluded} (facts : Facts) (counts : List ℕ) (j : Joined) → facts ≡ factsOf (reportAnswer r) → length counts ≡ areas
+    ran-gives : (w w′ : List ℕ) {x : Concluded} (facts : Facts) (counts : List ℕ) (j : Joined) → facts ≡ factsOf (reportAnswer said) → length counts ≡ areas
         → PlanRan W trees n (n - 1) (blankings (groundOf q)) counts w w′ j → x ≡ handedBy facts q n counts j → Reported (reportOutcome bs) w w′ x
-    unfolding concludedFor resultAfter reportAnswer written flatRows
+    unfolding concludedFor resultAfter reportAnswer planAnswer written flatRows
     ran-gives w w′ facts counts _ beside long (ran m few each x) e =
         let f : finished W (blankings (groundOf q)) (rowsOf W (treeAt trees (n + (n - 1) - 1))) ≡ finished W (blankings (groundOf q)) (rowsOf W (planTree (groundOf q))) =
         ap (λ (E : Tree ℕ). finished W (blankings (groundOf q)) (rowsOf W E)) (last-node counts long few each) in
-        let c : m ≡ length (reportRows r) = x .count ∙ ap length f ∙ report-count k well yes nine in
+        let c : m ≡ length (reportRows r) = x .count ∙ ap length f ∙ report-count ready nine in
         let v : flatRows n (finished W (blankings (groundOf q)) (rowsOf W (treeAt trees (n + (n - 1) - 1)))) ≡ flatMap (λ (row : Row). row) (reportRows r) =
-        ap (flatMap (take n)) f ∙ report-numbers k well yes nine in
-        reported (answered (reportAnswer r)) (outcome-rows (eleven-yes counts long few each))
+        ap (flatMap (take n)) f ∙ report-numbers ready nine in
+        reported (answered (reportAnswer said)) (outcome-rows (eleven-yes counts long few each))
         (e ∙ rw (c, beside, steps-all counts long few each)) (x .numbers ∙ rw v)
     ran-gives w w′ facts counts _ beside long (over i h o f) e =
         reported (refused 11) (outcome-11 (eleven-no i (omega (arith, pairs, h)) o)) e f
@@ -292,9 +303,9 @@ module _ (bs : Bytes) {s : StoredQuery} {cells : List ℤ} {r : Report} (read : 
     -- and run by the code
     pub report-ran : (w w′ : List ℕ) {x : Concluded} → StepsRun cells s w w′ x → Reported (reportOutcome bs) w w′ x
     report-ran w w′ y =
-        let same = query-kept k well (shared-passed r yes) admitted in
-        ran-gives w w′ (factsIn s (setWords (blankingSets (queryIn s))) cells) (y .counts) (y .joined) facts-all (y .long)
+        let same = query-kept ready admitted in
+        ran-gives w w′ (factsIn s (setWords (closedSets (queryIn s))) cells) (y .counts) (y .joined) facts-all (y .long)
         (subst (λ (m : ℕ). PlanRan W trees m (m - 1) (blankings (groundOf q)) (y .counts) w w′ (y .joined)) (k .table-count)
         (subst (λ (z : Query). PlanRan W (planTrees (groundOf z)) (s .«table_count») (s .«table_count» - 1) (blankings (groundOf z)) (y .counts) w w′ (y .joined)) same (y .ran)))
-        (y .handed ∙ handed-by s (factsIn s (setWords (blankingSets (queryIn s))) cells) (y .counts) (y .joined)
-        ∙ ap₂ (λ (z : Query) (m : ℕ). handedBy (factsIn s (setWords (blankingSets (queryIn s))) cells) z m (y .counts) (y .joined)) same (k .table-count))
+        (y .handed ∙ handed-by s (factsIn s (setWords (closedSets (queryIn s))) cells) (y .counts) (y .joined)
+        ∙ ap₂ (λ (z : Query) (m : ℕ). handedBy (factsIn s (setWords (closedSets (queryIn s))) cells) z m (y .counts) (y .joined)) same (k .table-count))

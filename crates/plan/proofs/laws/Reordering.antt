@@ -24,7 +24,7 @@ use Rattle.vocabulary.specs.Nodes.{joinTree, wellBuilt}
 use Rattle.links.specs.Links.{closeSet}
 use Rattle.links.proofs.laws.CloseLaws.{close-true}
 use Rattle.plan.specs.Sets.{setOf, Sets, blankingSets, emptySets}
-use Rattle.plan.specs.Plan.{Ground, orderNodes, plannedJoins, missing, pairSets, appliedSets, closedSets, planTree}
+use Rattle.plan.specs.Plan.{Ground, orderNodes, plannedJoins, missing, pairSets, appliedSets, closedSets, groundOf, plainGround, planTree}
 use Rattle.plan.specs.Questions.{question9}
 use Rattle.plan.proofs.laws.QueryLaws.{Accepted, query-shaped, query-sets, query-closed, query-tables}
 use Rattle.plan.proofs.laws.PlanLaws.{order-built, plan-shaped, plan-fits, plan-tables, plan-applied}
@@ -120,3 +120,13 @@ module _ (q : Query) (ok : Accepted q) {D : Database ℕ} (laws : Lawful D) (wid
         by-cases (decT (has (setOf (appliedSets g) t) c))
         (λ k. inl (has-elim (setOf (appliedSets g) t) c k))
         (λ n. inr (list .every t b c (missing-intro g t c m (λ k. n (has-intro k))))))
+
+  -- ---- with derived conditions, and without
+
+  pub same-rows-closed : (cells : Cells) → ((k : ℕ) (row : Row) → D .holds k row ≡ trueIn cells (conditionAt q k) row) → T (question9 q) → (L : List (Blanking ℕ))
+      → BlankingList (groundOf q) L → planRows D (planTree (groundOf q)) L ≡ ordered (rowsOf D (joinTree q))
+  same-rows-closed cells holds = same-rows (closedSets q) (closeSet q) (closed-sound cells holds)
+
+  pub same-rows-plain : T (question9 q) → (L : List (Blanking ℕ)) → BlankingList (plainGround q) L
+      → planRows D (planTree (plainGround q)) L ≡ ordered (rowsOf D (joinTree q))
+  same-rows-plain = same-rows (blankingSets q) (λ C. C) plain-sound
