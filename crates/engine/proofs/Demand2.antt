@@ -21,11 +21,12 @@ use Rattle.text.specs.Bytes.{Bytes}
 use Rattle.text.specs.Reading.{readReport}
 use Rattle.plan.specs.Questions.{orderQuestions, question9}
 use Rattle.plan.specs.Plan.{groundOf, blankings}
+use Rattle.plan.specs.Full.{fullReport}
 use Rattle.plan.proofs.laws.BlankingListLaws.{own-list}
 use Rattle.prepare.specs.Asking.{sharedQuestions, questionsOfReport, questionsOfDirect}
 use Rattle.prepare.proofs.laws.PassedLaws.{read-well}
 use Rattle.executor.specs.Runs.{directRows, reportRows, question11, question11Direct}
-use Rattle.engine.specs.Answers.{answered, reportQuestions, ReportAnswer, reportAnswer, reportOutcome, directQuestions, directOutcome, Outcome, refused}
+use Rattle.engine.specs.Answers.{answered, reportQuestions, ReportAnswer, planAnswer, reportAnswer, reportOutcome, directQuestions, directOutcome, Outcome, refused}
 use Rattle.engine.proofs.laws.AnswerLaws.{answered-report}
 use Rattle.engine.specs.Calls.{Lent, question1, question1Direct, ReportCall, reportAfter, reportCall, DirectCall, directAfter, directCall, cleared}
 use Rattle.engine.proofs.Demand3.{report-reads, report-rows}
@@ -44,14 +45,14 @@ due-rows text r read passed rows e = record {
 
 -- the rows of an answer of the engine
 pub report-due : (text : Bytes) (a : ReportAnswer) → reportOutcome text ≡ answered a → DueRows text (a .rows)
-unfolding reportOutcome reportQuestions questionsOfReport orderQuestions reportAnswer reportRows
+unfolding reportOutcome reportQuestions questionsOfReport orderQuestions reportAnswer planAnswer reportRows
 report-due text a e =
     let (r, read, passed, same) = answered-report reportQuestions reportAnswer text a e in
-    let (before, last) = append-yes (sharedQuestions ++ about queryOf orderQuestions) ((11, λ (r : Report). question11 r) ∷ []) r passed in
+    let (before, last) = append-yes (sharedQuestions ++ about queryOf orderQuestions) ((11, λ (r : Report). question11 (fullReport r)) ∷ []) r passed in
     let (shared, order) = append-yes sharedQuestions (about queryOf orderQuestions) r before in
     let nine = all-yes orderQuestions (queryOf r) (sym (first-about queryOf orderQuestions r) ∙ order) (9, λ (q : Query). question9 q) (here refl) in
     due-rows text r read shared (a .rows)
-    (sym (report-rows r (read-well text r read) shared nine (blankings (groundOf (queryOf r))) (own-list (groundOf (queryOf r))))
+    (sym (report-rows r (read-well text r read) shared nine (blankings (groundOf (queryOf (fullReport r)))) (own-list (groundOf (queryOf (fullReport r)))))
     ∙ ap (λ (x : ReportAnswer). x .rows) same)
 
 -- the rows of an answer of the direct reading

@@ -11,7 +11,7 @@ use lib.ListN.{length}
 use Rattle.cells.specs.Row.{blankRow, Row}
 use Rattle.cells.specs.declared.condition.Condition.{Condition}
 use Rattle.rows.proofs.laws.ListLaws.{here}
-use Rattle.rows.specs.Nullification.{Blanking}
+use Rattle.rows.specs.Nullification.{Blanking, planRows}
 use Rattle.rows.specs.Due.{Reads}
 use Rattle.vocabulary.specs.Facts.{noFacts}
 use Rattle.vocabulary.specs.declared.step.Step.{Step}
@@ -28,18 +28,21 @@ use Rattle.text.proofs.laws.ReadingLaws.{report-well-read, read-report}
 use Rattle.text.specs.QueryLines.{queryLines}
 use Rattle.text.proofs.laws.QueryLinesLaws.{same-tables, same-joins, same-conditions}
 use Rattle.plan.specs.Questions.{question9, orderQuestions, question5, noneOrBuilt}
-use Rattle.plan.specs.Plan.{groundOf, blankings}
+use Rattle.plan.specs.Plan.{groundOf, plainGround, planTree, blankings}
+use Rattle.plan.specs.Full.{fullReport}
+use Rattle.plan.proofs.laws.QueryLaws.{Accepted}
 use Rattle.plan.specs.BlankingLists.{BlankingList}
 use Rattle.plan.proofs.laws.BlankingListLaws.{own-list}
 use Rattle.prepare.specs.Asking.{sharedQuestions, questionsOfReport, questionsOfDirect}
 use Rattle.prepare.proofs.laws.PassedLaws.{three-yes, report-accepted, few-rows}
 use Rattle.executor.specs.Runs.{directRows, runRows, reportRows, question11Direct, question11}
-use Rattle.executor.proofs.laws.RunLaws.{direct-without-order, run-rows, direct-reads}
-use Rattle.engine.specs.Answers.{refused, answered, ReportAnswer, reportOutcome, directOutcome, directQuestions, reportQuestions, reportAnswer}
+use Rattle.executor.proofs.laws.RunLaws.{direct-without-order, run-rows, plain-rows, direct-reads}
+use Rattle.engine.specs.Answers.{refused, answered, ReportAnswer, reportOutcome, directOutcome, directQuestions, reportQuestions, planAnswer, reportAnswer}
 use Rattle.engine.specs.Calls.{Lent, question1Direct, DirectCall, directAfter, directCall, question1, ReportCall, reportAfter, reportCall, cleared, written}
 use Rattle.engine.specs.Demand3.{Demand3, SameQuery, CallsAgree, direct-11, report-11, same-answer, RoutinesAgree}
 use Rattle.engine.specs.declared.answer.Answer.the-variants.{Refused, Rows}
 use Rattle.engine.proofs.laws.AnswerLaws.{outcome-answered, outcome-refused}
+use Rattle.engine.proofs.laws.FullRows.{full-ok, full-few, full-nine, full-direct}
 
 -- the direct reading of texts with the same query is the same
 pub direct-same : (a b : List Line) → queryLines a ≡ queryLines b → directRows (reportOf a) ≡ directRows (reportOf b)
@@ -56,13 +59,23 @@ module _ (r : Report) (well : WellRead (queryOf r)) (accepted : firstNo sharedQu
   few : (t : ℕ) → rowCountIn r t ≤ blankRow
   few = few-rows r (three-yes r accepted)
 
-  -- both runs of one accepted report whose order question 9 does not turn down
-  pub report-rows : T (question9 (queryOf r)) → (L : List (Blanking ℕ)) → BlankingList (groundOf (queryOf r)) L → runRows r L ≡ directRows r
-  report-rows = run-rows r (report-accepted r accepted well) few
+  ok : Accepted (queryOf r)
+  ok = report-accepted r accepted well
+
+  -- both runs of one accepted report whose order question 9 does not turn down: the plan of the report with its derived conditions, and the
+  -- tree as it is written
+  pub report-rows : T (question9 (queryOf r)) → (L : List (Blanking ℕ)) → BlankingList (groundOf (queryOf (fullReport r))) L
+      → runRows (fullReport r) L ≡ directRows r
+  report-rows nine L list = run-rows (fullReport r) (full-ok r ok) (full-few r ok few) (full-nine r ok nine) L list ∙ full-direct r ok
+
+  -- and the run of the plan without derivation
+  pub plain-run-rows : T (question9 (queryOf r)) → (L : List (Blanking ℕ)) → BlankingList (plainGround (queryOf r)) L
+      → planRows (database r) (planTree (plainGround (queryOf r))) L ≡ directRows r
+  plain-run-rows = plain-rows r ok few
 
   -- the tree read directly has each due row once and no other, in rising order
   pub report-reads : Reads (database r) (joinTree (queryOf r)) (directRows r)
-  report-reads = direct-reads r (report-accepted r accepted well) few
+  report-reads = direct-reads r ok few
 
 -- demand 3
 pub demand-3 : Demand3
@@ -72,9 +85,9 @@ demand-3 first second a b s L list =
     ∙ sym (direct-same a b (s .same-query))
 
 -- the engine's own list is one of these
-pub demand-3-own-list : (first second : Bytes) (a b : List Line) → SameQuery first second a b → reportRows (reportOf b) ≡ directRows (reportOf a)
+pub demand-3-own-list : (first second : Bytes) (a b : List Line) → SameQuery first second a b → reportRows (fullReport (reportOf b)) ≡ directRows (reportOf a)
 unfolding reportRows
-demand-3-own-list first second a b s = demand-3 first second a b s (blankings (groundOf (queryOf (reportOf b)))) (own-list (groundOf (queryOf (reportOf b))))
+demand-3-own-list first second a b s = demand-3 first second a b s (blankings (groundOf (queryOf (fullReport (reportOf b))))) (own-list (groundOf (queryOf (fullReport (reportOf b)))))
 
 -- ---- the tree's own order
 
@@ -93,7 +106,7 @@ own-order-admitted r five (inr e) = rw e (built (joinPairs (queryOf r)) five)
 
 -- the tree's own order, with or without P lines, is admitted, and gives the rows of the tree read directly
 pub own-order-rows : (text : Bytes) (ls : List Line) → textLines text ≡ some ls → firstNo sharedQuestions (reportOf ls) ≡ none → OwnOrder ls
-    → (L : List (Blanking ℕ)) → BlankingList (groundOf (queryOf (reportOf ls))) L → runRows (reportOf ls) L ≡ directRows (reportOf ls)
+    → (L : List (Blanking ℕ)) → BlankingList (groundOf (queryOf (fullReport (reportOf ls)))) L → runRows (fullReport (reportOf ls)) L ≡ directRows (reportOf ls)
 own-order-rows text ls read accepted own L list =
     report-rows (reportOf ls) (report-well-read ls) accepted
     (own-order-admitted (reportOf ls) (report-accepted (reportOf ls) accepted (report-well-read ls) .five) own) L list
@@ -108,10 +121,10 @@ pub data RunsAgree (first second : Bytes) : Type 0 where
       → RunsAgree first second
 
 pub runs-agree : (first second : Bytes) (a b : List Line) → SameQuery first second a b → RunsAgree first second
-unfolding directOutcome reportOutcome directQuestions reportQuestions questionsOfDirect questionsOfReport reportAnswer
+unfolding directOutcome reportOutcome directQuestions reportQuestions questionsOfDirect questionsOfReport reportAnswer planAnswer
 runs-agree first second a b s = cases
     (last-question sharedQuestions (11, λ (r : Report). question11Direct r) (reportOf a) (s .first-accepted))
-    (last-question (sharedQuestions ++ about queryOf orderQuestions) (11, λ (r : Report). question11 r) (reportOf b)
+    (last-question (sharedQuestions ++ about queryOf orderQuestions) (11, λ (r : Report). question11 (fullReport r)) (reportOf b)
     (none-then sharedQuestions (about queryOf orderQuestions) (reportOf b) (s .second-accepted)
     ∙ first-about queryOf orderQuestions (reportOf b) ∙ s .order-admitted))
   where

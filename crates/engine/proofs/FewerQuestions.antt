@@ -4,46 +4,52 @@ use mathlib.Core.Logic.{_≢_}
 use mathlib.Core.List.{List, [], _∷_, _++_}
 use mathlib.Core.Option.{Option, none, some}
 use Prim.Native.Nat.{ℕ}
-use Rattle.cells.proofs.laws.BoolLaws.{clash}
+use Rattle.cells.proofs.laws.BoolLaws.{clash, is-true}
 use Rattle.vocabulary.specs.Asking.{Question, firstNo, about, numbersOf}
 use Rattle.vocabulary.specs.KeyColumns.{keyQuestions}
 use Rattle.vocabulary.specs.Report.{Report, Query, queryOf}
-use Rattle.vocabulary.proofs.laws.AskingLaws.{thenNo, no-number}
+use Rattle.vocabulary.proofs.laws.AskingLaws.{thenNo, no-number, yes-aside}
 use Rattle.vocabulary.proofs.laws.WellRead.{WellRead}
 use Rattle.text.specs.Reading.{readReport}
 use Rattle.text.specs.TableQuestions.{tableQuestions}
 use Rattle.rows.specs.Lists.{has, any}
 use Rattle.rows.proofs.laws.ListLaws.{has-intro}
-use Rattle.plan.specs.Plan.{groundOf}
-use Rattle.plan.specs.Questions.{question9, queryQuestions, orderQuestions}
+use Rattle.plan.specs.Plan.{groundOf, plainGround}
+use Rattle.plan.specs.Full.{fullQuery, fullReport}
+use Rattle.plan.specs.Questions.{question9, treeQuestions, orderQuestions}
 use Rattle.plan.specs.Former.{question10}
-use Rattle.plan.proofs.laws.FourKindsLaws.{one-way, same-way, four-kinds}
+use Rattle.plan.proofs.laws.FourKindsLaws.{pulled-one-way, plain-closed, full-closed}
+use Rattle.plan.proofs.laws.FullLaws.{full-accepted}
 use Rattle.plan.proofs.laws.FormerLaws.{ten-yes}
 use Rattle.prepare.specs.Asking.{sharedQuestions, questionsOfReport}
-use Rattle.prepare.proofs.laws.PassedLaws.{read-well, query-accepted, report-accepted}
+use Rattle.prepare.proofs.laws.PassedLaws.{read-well, tree-accepted, report-accepted}
 use Rattle.executor.specs.Runs.{question11}
 use Rattle.engine.specs.Answers.{Outcome, refused, answered, outcomeFor, outcomeBy, reportQuestions, ReportAnswer, reportAnswer, reportOutcome}
+use Rattle.engine.specs.Plain.{plainShared, plainQuestions}
 use Rattle.engine.specs.Former.{formerQuestions, formerAnswer, formerOutcome}
 use Rattle.engine.specs.FewerQuestions.{WhateverTreeAndOrder, questionsWithTen, SameWithTen, TenNeverMet}
-use Rattle.engine.proofs.Former.{yes-aside, early, late, report-same}
+use Rattle.engine.proofs.Former.{early, late, report-same}
+use Rattle.engine.proofs.laws.FullRows.{full-ok}
 
 pub whatever-tree-and-order : WhateverTreeAndOrder
 whatever-tree-and-order text r e passed =
-    let ok = query-accepted (queryOf r) (read-well text r e) passed in
-    (one-way (queryOf r) ok, same-way (queryOf r) ok, four-kinds (queryOf r) ok)
+    let ok = tree-accepted (queryOf r) (read-well text r e) passed in (
+      pulled-one-way (plainGround (queryOf r)) (plain-closed (queryOf r) ok),
+      pulled-one-way (groundOf (queryOf (fullReport r))) (full-closed (queryOf (fullReport r)) (full-ok r ok)),
+    )
 
 -- ---- the outcomes with question 10
 
 abbrev Last : List (Question Report)
-Last = (11, λ (r : Report). question11 r) ∷ []
+Last = (11, λ (r : Report). question11 (fullReport r)) ∷ []
 
 -- the first no is the same with it
 no-same : (r : Report) → WellRead (queryOf r) → firstNo questionsWithTen r ≡ firstNo reportQuestions r
-unfolding questionsWithTen reportQuestions questionsOfReport orderQuestions
+unfolding questionsWithTen reportQuestions questionsOfReport orderQuestions about
 no-same r well = shared (firstNo sharedQuestions r) refl
   where
     With : List (Question Report)
-    With = about queryOf ((9, λ (q : Query). question9 q) ∷ (10, λ (q : Query). question10 (groundOf q)) ∷ [])
+    With = about queryOf ((9, λ (q : Query). question9 q) ∷ (10, λ (q : Query). question10 (groundOf (fullQuery q))) ∷ [])
 
     Without : List (Question Report)
     Without = about queryOf ((9, λ (q : Query). question9 q) ∷ [])
@@ -51,8 +57,8 @@ no-same r well = shared (firstNo sharedQuestions r) refl
     shared : (o : Option ℕ) → firstNo sharedQuestions r ≡ o → firstNo (sharedQuestions ++ With ++ Last) r ≡ firstNo (sharedQuestions ++ Without ++ Last) r
     shared none e =
         late r sharedQuestions With Last e
-        ∙ ap (λ (o : Option ℕ). thenNo o (firstNo Last r)) (yes-aside r (9, λ (q : Query). question9 q) (10, λ (q : Query). question10 (groundOf q))
-        (ten-yes (queryOf r) (report-accepted r e well)))
+        ∙ ap (λ (o : Option ℕ). thenNo o (firstNo Last r)) (yes-aside ((9, λ (z : Report). question9 (queryOf z)) ∷ []) [] (10, λ (z : Report). question10 (groundOf (fullQuery (queryOf z)))) r
+        (is-true _ (ten-yes (fullQuery (queryOf r)) (full-accepted (queryOf r) (report-accepted r e well)))))
         ∙ sym (late r sharedQuestions Without Last e)
     shared (some n) e = early r sharedQuestions With Last n e ∙ sym (early r sharedQuestions Without Last n e)
 
@@ -66,10 +72,10 @@ same-with-ten text = go (readReport text) refl
 
 -- ---- document 01's engine
 
--- no question that the report is asked has the number 10
-ten-no-number : (r : Report) → firstNo reportQuestions r ≢ some 10
-unfolding reportQuestions questionsOfReport sharedQuestions tableQuestions keyQuestions queryQuestions orderQuestions about numbersOf has any
-ten-no-number r e = has-intro (no-number reportQuestions r 10 e)
+-- no question that the report was asked without derivation has the number 10
+ten-no-number : (r : Report) → firstNo plainQuestions r ≢ some 10
+unfolding plainQuestions plainShared tableQuestions keyQuestions treeQuestions orderQuestions about numbersOf has any
+ten-no-number r e = has-intro (no-number plainQuestions r 10 e)
 
 pub ten-never-met : TenNeverMet
 unfolding formerOutcome outcomeBy outcomeFor

@@ -1,5 +1,5 @@
--- The proof of what stays of document 01's answers: a text that did not get 8 keeps its refusal or its S, U, M and R lines; and no call answers
--- 8, nor 10. Assumes nothing.
+-- The proof of what stays of document 01's answers by the engine without derivation: a text that did not get 8 keeps its refusal or its S, U,
+-- M and R lines; and no call answers 8, nor 10. Assumes nothing.
 use mathlib.Core.Path.{_≡_, refl, sym, ap, ap₂, _∙_, subst}
 use mathlib.Core.Logic.{_≢_, inl, inr}
 use mathlib.Core.Bool.{Bool, true, false}
@@ -9,14 +9,14 @@ use Prim.Native.Nat.{ℕ, _≤_}
 use lib.Dec.{T}
 use lib.ListN.{length}
 use Rattle.cells.specs.Row.{Row, blankRow}
-use Rattle.cells.proofs.laws.BoolLaws.{clash}
+use Rattle.cells.proofs.laws.BoolLaws.{clash, is-true}
 use Rattle.rows.specs.Lists.{_isIn_, keep, has, any}
-use Rattle.rows.proofs.laws.ListLaws.{keep-append, has-intro}
+use Rattle.rows.proofs.laws.ListLaws.{here, keep-append, has-intro}
 use Rattle.rows.specs.Nullification.{Blanking, planRows}
 use Rattle.rows.specs.declared.kind.Kind.{Kind}
 use Rattle.rows.specs.declared.kind.Kind.the-variants.{Inner, Outer, Product}
 use Rattle.vocabulary.specs.Asking.{Question, firstNo, about, numbersOf}
-use Rattle.vocabulary.proofs.laws.AskingLaws.{thenNo, first-append, no-then, none-then, asked-no, asked-yes, append-yes, first-yes}
+use Rattle.vocabulary.proofs.laws.AskingLaws.{thenNo, all-yes, first-about, first-append, no-then, none-then, asked-no, asked-yes, append-yes, first-yes, yes-aside}
 use Rattle.vocabulary.specs.Database.{database, rowCountIn, cellsOf}
 use Rattle.vocabulary.specs.Report.{Report, Query, Join, queryOf}
 use Rattle.vocabulary.specs.Steps.{bitsOf, kindNumber, pairStep, blankingStep, bestMatchStep}
@@ -25,23 +25,24 @@ use Rattle.vocabulary.proofs.laws.WellRead.{WellRead}
 use Rattle.text.specs.Bytes.{Bytes}
 use Rattle.text.specs.Reading.{readReport}
 use Rattle.vocabulary.specs.KeyColumns.{keyQuestions}
-use Rattle.text.specs.TableQuestions.{tableQuestions}
-use Rattle.plan.specs.Plan.{Ground, groundOf, plannedJoins, planTrees, planTree, blankings, stepsOf}
-use Rattle.plan.specs.Questions.{queryQuestions, orderQuestions, question9}
+use Rattle.text.specs.TableQuestions.{tableQuestions, question3}
+use Rattle.plan.specs.Plan.{Ground, plainGround, plannedJoins, planTrees, planTree, blankings, stepsOf}
+use Rattle.plan.specs.Questions.{treeQuestions, queryQuestions, orderQuestions, question9}
 use Rattle.plan.specs.Former.{question8, formerGround, formerBlankings, question10}
 use Rattle.plan.proofs.laws.QueryLaws.{Accepted}
 use Rattle.plan.proofs.laws.BlankingListLaws.{own-list}
 use Rattle.plan.proofs.laws.FormerLaws.{sets-kept, ground-kept, former-ten, former-rows}
 use Rattle.prepare.specs.Asking.{sharedQuestions, questionsOfReport, questionsOfDirect}
-use Rattle.prepare.proofs.laws.PassedLaws.{read-well, three-yes, report-accepted, few-rows}
-use Rattle.executor.specs.Runs.{results, withinLimit, directRows, question11, question11Direct, runRows, reportRows, pairCounts, reportSteps}
+use Rattle.prepare.proofs.laws.PassedLaws.{read-well, tree-accepted, few-rows}
+use Rattle.executor.specs.Runs.{results, withinLimit, directRows, question11Direct}
 use Rattle.executor.proofs.laws.DatabaseLaws.{lawful, lawful-names, database-width}
-use Rattle.executor.proofs.laws.RunLaws.{run-rows}
-use Rattle.engine.specs.Answers.{Outcome, refused, answered, outcomeFor, outcomeBy, reportQuestions, directQuestions, ReportAnswer, reportAnswer, reportOutcome, directOutcome}
+use Rattle.executor.proofs.laws.RunLaws.{plain-rows}
+use Rattle.engine.specs.Answers.{Outcome, refused, answered, outcomeFor, outcomeBy, reportQuestions, directQuestions, ReportAnswer}
 use Rattle.engine.specs.Calls.{reportCall, directCall}
 use Rattle.engine.specs.declared.answer.Answer.{Answer}
 use Rattle.engine.specs.declared.answer.Answer.the-variants.{Refused}
 use Rattle.engine.specs.Demand1.{Decided, askedOfReport, askedOfDirect}
+use Rattle.engine.specs.Plain.{plainShared, plainQuestions, plainDirectQuestions, plainCounts, plainRows, plainAnswer, plainOutcome, plainDirect}
 use Rattle.engine.specs.Former.{formerQuestions, formerDirectQuestions, formerCounts, formerSteps, formerRows, formerAnswer, formerOutcome, formerDirect, pairsIn, SameLines, Stays, refusedAs, answeredAs, LinesKept, NumberUnused}
 use Rattle.engine.proofs.Demand1.{report-decided, direct-decided, not-both}
 
@@ -85,61 +86,65 @@ pairs-first js ns L =
     ∙ ap₂ _++_ (keep-append _ (zipWith pairStep js ns) (map blankingStep L) ∙ ap₂ _++_ (pairs-all js ns) (blankings-none L)) (best-none L)
     ∙ nothing-behind (zipWith pairStep js ns)
 
--- ---- a question behind another that is answered yes
+-- ---- what the engine without derivation was asked
 
-pub yes-aside : (r : Report) (a b : Question Query) → T (b .1 (queryOf r))
-    → firstNo (about queryOf (a ∷ b ∷ [])) r ≡ firstNo (about queryOf (a ∷ [])) r
-unfolding about firstNo
-yes-aside r a b h = first (a .1 (queryOf r)) (b .1 (queryOf r)) h
-  where
-    first : (x y : Bool) → T y → _≡_ {A = Option ℕ} (elim x [ true ↦ elim y [ true ↦ none | false ↦ some (b .0) ] | false ↦ some (a .0) ])
-        (elim x [ true ↦ none | false ↦ some (a .0) ])
-    first true true h = refl
-    first false y h = refl
+module _ (r : Report) (yes : firstNo plainShared r ≡ none) where
+  plain-tree : firstNo treeQuestions (queryOf r) ≡ none
+  unfolding plainShared
+  plain-tree =
+      sym (first-about queryOf treeQuestions r)
+      ∙ append-yes keyQuestions (about queryOf treeQuestions) r (append-yes tableQuestions (keyQuestions ++ about queryOf treeQuestions) r yes .1) .1
+
+  pub plain-three : T (question3 r)
+  unfolding plainShared tableQuestions
+  plain-three = all-yes tableQuestions r (append-yes tableQuestions (keyQuestions ++ about queryOf treeQuestions) r yes .0) (3, λ (z : Report). question3 z) (here refl)
+
+pub plain-accepted : (r : Report) → WellRead (queryOf r) → firstNo plainShared r ≡ none → Accepted (queryOf r)
+plain-accepted r well passed = tree-accepted (queryOf r) well (plain-tree r passed)
 
 -- ---- a report that passed question 8
 
-module _ (r : Report) (well : WellRead (queryOf r)) (yes : firstNo sharedQuestions r ≡ none) (eight : T (question8 (queryOf r))) where
+module _ (r : Report) (well : WellRead (queryOf r)) (yes : firstNo plainShared r ≡ none) (eight : T (question8 (queryOf r))) where
   abbrev q : Query
   q = queryOf r
 
   ok : Accepted q
-  ok = report-accepted r yes well
+  ok = plain-accepted r well yes
 
-  ground : formerGround q ≡ groundOf q
+  ground : formerGround q ≡ plainGround q
   ground = ground-kept q ok eight
 
   -- what was asked behind question 8 has the same answers: question 10 turned nothing down
   order-same : firstNo (about queryOf ((9, λ (q : Query). question9 q) ∷ (10, λ (q : Query). question10 (formerGround q)) ∷ [])) r
       ≡ firstNo (about queryOf orderQuestions) r
-  unfolding orderQuestions
-  order-same = yes-aside r (9, λ (z : Query). question9 z) (10, λ (z : Query). question10 (formerGround z)) (former-ten q ok eight)
+  unfolding orderQuestions about
+  order-same = yes-aside ((9, λ (z : Report). question9 (queryOf z)) ∷ []) [] (10, λ (z : Report). question10 (formerGround (queryOf z))) r (is-true _ (former-ten q ok eight))
 
   eleven-same : firstNo ((11, λ (z : Report). withinLimit z (results z (planTrees (formerGround (queryOf z))))) ∷ []) r
-      ≡ firstNo ((11, λ (z : Report). question11 z) ∷ []) r
-  unfolding firstNo question11
+      ≡ firstNo ((11, λ (z : Report). withinLimit z (results z (planTrees (plainGround (queryOf z))))) ∷ []) r
+  unfolding firstNo
   eleven-same = ap (λ (g : Ground). firstNo ((11, λ (z : Report). withinLimit z (results z (planTrees g))) ∷ []) r) ground
 
   abbrev small : (t : ℕ) → rowCountIn r t ≤ blankRow
-  small = few-rows r (three-yes r yes)
+  small = few-rows r (plain-three r yes)
 
   -- the plan with the blanking steps of document 01's rule has the rows of the tree read directly
-  former-run : T (question9 q) → planRows (database r) (planTree (groundOf q)) (formerBlankings (groundOf q)) ≡ directRows r
+  former-run : T (question9 q) → planRows (database r) (planTree (plainGround q)) (formerBlankings (plainGround q)) ≡ directRows r
   unfolding database directRows
   former-run nine = former-rows q ok (lawful q (rowCountIn r) (cellsOf r) small) (database-width q (rowCountIn r) (cellsOf r) small)
       (lawful-names q (rowCountIn r) (cellsOf r) small) nine
 
   -- its answer has the same S, U, M and R lines
-  lines-same : T (question9 q) → SameLines (formerAnswer r) (reportAnswer r)
-  unfolding formerAnswer reportAnswer formerSteps formerCounts formerRows reportSteps pairCounts stepsOf reportRows runRows
+  lines-same : T (question9 q) → SameLines (formerAnswer r) (plainAnswer r)
+  unfolding formerAnswer plainAnswer formerSteps formerCounts formerRows plainCounts stepsOf plainRows
   lines-same nine = record {
     sets = ap (map bitsOf) (sets-kept q ok eight);
     tallies = refl;
     pairs = pairs-first (plannedJoins (formerGround q)) (counts (formerGround q)) (formerBlankings (formerGround q))
         ∙ ap (λ (g : Ground). zipWith pairStep (plannedJoins g) (counts g)) ground
-        ∙ sym (pairs-first (plannedJoins (groundOf q)) (counts (groundOf q)) (blankings (groundOf q)));
+        ∙ sym (pairs-first (plannedJoins (plainGround q)) (counts (plainGround q)) (blankings (plainGround q)));
     rows = ap (λ (g : Ground). planRows (database r) (planTree g) (formerBlankings g)) ground ∙ former-run nine
-        ∙ sym (run-rows r ok small nine (blankings (groundOf q)) (own-list (groundOf q)));
+        ∙ sym (plain-rows r ok small nine (blankings (plainGround q)) (own-list (plainGround q)));
   }
     where
       counts : Ground → List ℕ
@@ -182,34 +187,34 @@ module _ (r : Report) where
 
   module _ (well : WellRead (queryOf r)) where
     -- where 8 was not the first no, the first no is the same
-    pub report-same : firstNo formerQuestions r ≢ some 8 → firstNo formerQuestions r ≡ firstNo reportQuestions r
-    unfolding formerQuestions reportQuestions questionsOfReport thenNo
-    report-same n = shared (firstNo sharedQuestions r) refl
+    pub report-same : firstNo formerQuestions r ≢ some 8 → firstNo formerQuestions r ≡ firstNo plainQuestions r
+    unfolding formerQuestions plainQuestions thenNo
+    report-same n = shared (firstNo plainShared r) refl
       where
-        asked : firstNo sharedQuestions r ≡ none → (b : Bool) → question8 (queryOf r) ≡ b → firstNo formerQuestions r ≡ firstNo reportQuestions r
+        asked : firstNo plainShared r ≡ none → (b : Bool) → question8 (queryOf r) ≡ b → firstNo formerQuestions r ≡ firstNo plainQuestions r
         asked e true f =
-            late r sharedQuestions behind (Eleven ∷ []) e
+            late r plainShared behind (Eleven ∷ []) e
             ∙ ap₂ thenNo (eight-yes f ∙ order-same r well e (subst T (sym f) tt)) (eleven-same r well e (subst T (sym f) tt))
-            ∙ sym (late r sharedQuestions (about queryOf orderQuestions) ((11, λ (z : Report). question11 z) ∷ []) e)
-        asked e false f = absurd (n (late r sharedQuestions behind (Eleven ∷ []) e
+            ∙ sym (late r plainShared (about queryOf orderQuestions) ((11, λ (z : Report). withinLimit z (results z (planTrees (plainGround (queryOf z))))) ∷ []) e)
+        asked e false f = absurd (n (late r plainShared behind (Eleven ∷ []) e
             ∙ ap (λ (o : Option ℕ). thenNo o (firstNo (Eleven ∷ []) r)) (eight-no f)))
 
-        shared : (o : Option ℕ) → firstNo sharedQuestions r ≡ o → firstNo formerQuestions r ≡ firstNo reportQuestions r
+        shared : (o : Option ℕ) → firstNo plainShared r ≡ o → firstNo formerQuestions r ≡ firstNo plainQuestions r
         shared none e = asked e (question8 (queryOf r)) refl
-        shared (some k) e = early r sharedQuestions behind (Eleven ∷ []) k e
-            ∙ sym (early r sharedQuestions (about queryOf orderQuestions) ((11, λ (z : Report). question11 z) ∷ []) k e)
+        shared (some k) e = early r plainShared behind (Eleven ∷ []) k e
+            ∙ sym (early r plainShared (about queryOf orderQuestions) ((11, λ (z : Report). withinLimit z (results z (planTrees (plainGround (queryOf z))))) ∷ []) k e)
 
-    answer-same : firstNo formerQuestions r ≡ none → SameLines (formerAnswer r) (reportAnswer r)
+    answer-same : firstNo formerQuestions r ≡ none → SameLines (formerAnswer r) (plainAnswer r)
     unfolding formerQuestions
     answer-same e =
-        let (f, _) = append-yes (sharedQuestions ++ behind) (Eleven ∷ []) r e in
-        let (passed, g) = append-yes sharedQuestions behind r f in
+        let (f, _) = append-yes (plainShared ++ behind) (Eleven ∷ []) r e in
+        let (passed, g) = append-yes plainShared behind r f in
         let (eight, nine) = behind-yes g in
         lines-same r well passed eight nine
 
-  direct-same : firstNo formerDirectQuestions r ≢ some 8 → firstNo formerDirectQuestions r ≡ firstNo directQuestions r
-  unfolding formerDirectQuestions directQuestions questionsOfDirect about firstNo thenNo
-  direct-same n = shared (firstNo sharedQuestions r) refl
+  direct-same : firstNo formerDirectQuestions r ≢ some 8 → firstNo formerDirectQuestions r ≡ firstNo plainDirectQuestions r
+  unfolding formerDirectQuestions plainDirectQuestions about firstNo thenNo
+  direct-same n = shared (firstNo plainShared r) refl
     where
       Last : List (Question Report)
       Last = (11, λ (r : Report). question11Direct r) ∷ []
@@ -217,15 +222,15 @@ module _ (r : Report) where
       One : List (Question Report)
       One = (8, λ (r : Report). question8 (queryOf r)) ∷ []
 
-      asked : firstNo sharedQuestions r ≡ none → (b : Bool) → question8 (queryOf r) ≡ b → firstNo formerDirectQuestions r ≡ firstNo directQuestions r
+      asked : firstNo plainShared r ≡ none → (b : Bool) → question8 (queryOf r) ≡ b → firstNo formerDirectQuestions r ≡ firstNo plainDirectQuestions r
       asked e true f =
-          late r sharedQuestions One Last e ∙ ap (λ (o : Option ℕ). thenNo o (firstNo Last r)) (asked-yes (8, λ (z : Report). question8 (queryOf z)) [] r f)
-          ∙ sym (none-then sharedQuestions Last r e)
-      asked e false f = absurd (n (late r sharedQuestions One Last e ∙ ap (λ (o : Option ℕ). thenNo o (firstNo Last r)) (asked-no (8, λ (z : Report). question8 (queryOf z)) [] r f)))
+          late r plainShared One Last e ∙ ap (λ (o : Option ℕ). thenNo o (firstNo Last r)) (asked-yes (8, λ (z : Report). question8 (queryOf z)) [] r f)
+          ∙ sym (none-then plainShared Last r e)
+      asked e false f = absurd (n (late r plainShared One Last e ∙ ap (λ (o : Option ℕ). thenNo o (firstNo Last r)) (asked-no (8, λ (z : Report). question8 (queryOf z)) [] r f)))
 
-      shared : (o : Option ℕ) → firstNo sharedQuestions r ≡ o → firstNo formerDirectQuestions r ≡ firstNo directQuestions r
+      shared : (o : Option ℕ) → firstNo plainShared r ≡ o → firstNo formerDirectQuestions r ≡ firstNo plainDirectQuestions r
       shared none e = asked e (question8 (queryOf r)) refl
-      shared (some k) e = early r sharedQuestions One Last k e ∙ sym (no-then sharedQuestions Last r k e)
+      shared (some k) e = early r plainShared One Last k e ∙ sym (no-then plainShared Last r k e)
 
 -- what is answered to a report, by the first no
 abbrev decided : {A : Type 0} → A → Option ℕ → Outcome A
@@ -237,24 +242,24 @@ stays a b none (some n) e h = clash cc
 stays a b (some n) none e h = clash cc
 stays a b (some n) (some k) e h = subst (λ (m : ℕ). Stays (refused n) (refused m)) (let z : n ≡ k = cc in z) (refusedAs n)
 
-pub report-kept : (text : Bytes) → formerOutcome text ≢ refused 8 → Stays (formerOutcome text) (reportOutcome text)
-unfolding formerOutcome reportOutcome outcomeBy outcomeFor
+pub report-kept : (text : Bytes) → formerOutcome text ≢ refused 8 → Stays (formerOutcome text) (plainOutcome text)
+unfolding formerOutcome plainOutcome outcomeBy outcomeFor
 report-kept text n = go (readReport text) refl n
   where
     go : (o : Option Report) → readReport text ≡ o → outcomeFor formerQuestions formerAnswer o ≢ refused 8
-        → Stays (outcomeFor formerQuestions formerAnswer o) (outcomeFor reportQuestions reportAnswer o)
+        → Stays (outcomeFor formerQuestions formerAnswer o) (outcomeFor plainQuestions plainAnswer o)
     go none e n = refusedAs 2
     go (some r) e n =
         let well = read-well text r e in
-        stays (formerAnswer r) (reportAnswer r) (firstNo formerQuestions r) (firstNo reportQuestions r)
+        stays (formerAnswer r) (plainAnswer r) (firstNo formerQuestions r) (firstNo plainQuestions r)
         (report-same r well (λ z. n (ap (decided (formerAnswer r)) z))) (answer-same r well)
 
-pub direct-kept : (text : Bytes) → formerDirect text ≢ refused 8 → formerDirect text ≡ directOutcome text
-unfolding formerDirect directOutcome outcomeBy outcomeFor
+pub direct-kept : (text : Bytes) → formerDirect text ≢ refused 8 → formerDirect text ≡ plainDirect text
+unfolding formerDirect plainDirect outcomeBy outcomeFor
 direct-kept text n = go (readReport text) n
   where
     go : (o : Option Report) → outcomeFor formerDirectQuestions directRows o ≢ refused 8
-        → outcomeFor formerDirectQuestions directRows o ≡ outcomeFor directQuestions directRows o
+        → outcomeFor formerDirectQuestions directRows o ≡ outcomeFor plainDirectQuestions directRows o
     go none n = refl
     go (some r) n = ap (decided (directRows r)) (direct-same r (λ z. n (ap (decided (directRows r)) z)))
 
@@ -278,5 +283,5 @@ unasked n x y = (
 
 -- no call answers 8, and none answers 10
 pub numbers-unused : NumberUnused 8 × NumberUnused 10
-unfolding askedOfReport askedOfDirect reportQuestions directQuestions questionsOfReport questionsOfDirect sharedQuestions tableQuestions keyQuestions queryQuestions orderQuestions about numbersOf has any
+unfolding askedOfReport askedOfDirect reportQuestions directQuestions questionsOfReport questionsOfDirect sharedQuestions tableQuestions keyQuestions queryQuestions treeQuestions orderQuestions about numbersOf has any
 numbers-unused = (unasked 8 (λ h. h) (λ h. h), unasked 10 (λ h. h) (λ h. h))

@@ -15,6 +15,7 @@ use Rattle.vocabulary.proofs.laws.AskingLaws.{append-yes}
 use Rattle.vocabulary.proofs.laws.KeyColumnLaws.{twelve-tells, tells-twelve}
 use Rattle.text.specs.Bytes.{Bytes}
 use Rattle.text.specs.Reading.{readReport}
+use Rattle.plan.specs.Full.{fullReport}
 use Rattle.plan.specs.Questions.{orderQuestions}
 use Rattle.prepare.specs.Asking.{sharedQuestions, questionsOfReport, questionsOfDirect}
 use Rattle.prepare.proofs.laws.PassedLaws.{twelve-yes}
@@ -42,7 +43,7 @@ report-keys : (text : Bytes) (a : ReportAnswer) → reportOutcome text ≡ answe
 unfolding reportOutcome reportQuestions questionsOfReport
 report-keys text a e s f =
     let (r, read, passed, same) = answered-report reportQuestions reportAnswer text a e in
-    let (before, last) = append-yes (sharedQuestions ++ about queryOf orderQuestions) ((11, λ (z : Report). question11 z) ∷ []) r passed in
+    let (before, last) = append-yes (sharedQuestions ++ about queryOf orderQuestions) ((11, λ (z : Report). question11 (fullReport z)) ∷ []) r passed in
     same-report text r s read f (passed-keys r (append-yes sharedQuestions (about queryOf orderQuestions) r before .0))
 
 direct-keys : (text : Bytes) (rows : List Row) → directOutcome text ≡ answered rows → (r : Report) → readReport text ≡ some r → KeysTellApart r

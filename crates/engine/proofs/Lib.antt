@@ -1,6 +1,7 @@
 pub mod Demand1
 pub mod Demand2
 pub mod Demand3
+pub mod Derivation
 pub mod Filled
 pub mod FewerQuestions
 pub mod Former

@@ -17,6 +17,7 @@ use Rattle.text.specs.Reading.{textLines, reportOf}
 use Rattle.text.specs.QueryLines.{queryLines}
 use Rattle.plan.specs.Questions.{orderQuestions}
 use Rattle.plan.specs.Plan.{groundOf}
+use Rattle.plan.specs.Full.{fullReport}
 use Rattle.plan.specs.BlankingLists.{BlankingList}
 use Rattle.prepare.specs.Asking.{sharedQuestions}
 use Rattle.executor.specs.Runs.{directRows, runRows}
@@ -24,7 +25,8 @@ use Rattle.engine.specs.Calls.{Lent, question1, question1Direct, written
 use Rattle.engine.specs.declared.answer.Answer.the-variants.{Rows, Refused}
 
 -- Two texts and their lines (question 2 turns neither down), with the same T, D, J, C and K lines. "The query with its tables is
--- accepted if nothing that the direct reading is asked before question 11 turns either text down [3 to 7 and 12]; an order is admitted if no
+-- accepted if nothing that the direct reading is asked before question 11 turns either text down [3 to 7, 12
+-- and 13]; an order is admitted if no
 -- question that the direct reading skips [9] turns down the text that holds it", here the second. Specification 8.4, 8.5
 pub record SameQuery (first second : Bytes) (a b : List Line) : Type 0 where
   pub first-read : textLines first ≡ some a
@@ -35,11 +37,12 @@ pub record SameQuery (first second : Bytes) (a b : List Line) : Type 0 where
   pub order-admitted : firstNo orderQuestions (queryOf (reportOf b)) ≡ none
 
 -- For every list of blanking steps that document 01 allows after the second text's pairs, the run of its plan gives the rows of the
--- first text's tree read directly: as many, and row after row the same row number or blank in every table. Specification 8.6
+-- first text's tree read directly: as many, and row after row the same row number or blank in every table. The plan is that of the report
+-- with its derived conditions (document 02, item 6), the tree that of the text as written. Specification 8.6
 abbrev pub Demand3 : Type 0
 Demand3 = (first second : Bytes) (a b : List Line) → SameQuery first second a b
-    → (L : List (Blanking ℕ)) → BlankingList (groundOf (queryOf (reportOf b))) L
-    → runRows (reportOf b) L ≡ directRows (reportOf a)
+    → (L : List (Blanking ℕ)) → BlankingList (groundOf (queryOf (fullReport (reportOf b)))) L
+    → runRows (fullReport (reportOf b)) L ≡ directRows (reportOf a)
 
 -- One of the two calls answers 11, or both answer the same count of rows and write the same rows at the front of their result buffers
 -- Specification 8.7

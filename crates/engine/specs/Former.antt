@@ -20,9 +20,9 @@ use Rattle.text.specs.Bytes.{Bytes}
 use Rattle.plan.specs.Plan.{plannedJoins, planTrees, planTree}
 use Rattle.plan.specs.Questions.{question9}
 use Rattle.plan.specs.Former.{formerSets, question8, formerGround, formerBlankings, question10}
-use Rattle.prepare.specs.Asking.{sharedQuestions}
 use Rattle.executor.specs.Runs.{results, withinLimit, directRows, question11Direct}
-use Rattle.engine.specs.Answers.{Outcome, refused, answered, outcomeBy, ReportAnswer, reportOutcome, directOutcome}
+use Rattle.engine.specs.Answers.{Outcome, refused, answered, outcomeBy, ReportAnswer}
+use Rattle.engine.specs.Plain.{plainShared, plainOutcome, plainDirect}
 use Rattle.engine.specs.Calls.{Lent, reportCall, directCall}
 use Rattle.engine.specs.declared.answer.Answer.the-variants.{Refused}
 
@@ -31,7 +31,7 @@ use Rattle.engine.specs.declared.answer.Answer.the-variants.{Refused}
 -- what it was asked behind question 2. Specification 6.7
 unfoldable pub formerQuestions : List (Question Report)
 formerQuestions =
-    sharedQuestions
+    plainShared
     ++ about queryOf
     ((8, λ (q : Query). question8 q) ∷ (9, λ (q : Query). question9 q) ∷ (10, λ (q : Query). question10 (formerGround q)) ∷ [])
     ++ ((11, λ (r : Report). withinLimit r (results r (planTrees (formerGround (queryOf r))))) ∷ [])
@@ -39,7 +39,7 @@ formerQuestions =
 -- what its direct reading was asked. Specification 6.7
 unfoldable pub formerDirectQuestions : List (Question Report)
 formerDirectQuestions =
-    sharedQuestions ++ about queryOf ((8, λ (q : Query). question8 q) ∷ []) ++ ((11, λ (r : Report). question11Direct r) ∷ [])
+    plainShared ++ about queryOf ((8, λ (q : Query). question8 q) ∷ []) ++ ((11, λ (r : Report). question11Direct r) ∷ [])
 
 module _ (r : Report) where
   -- the count of rows of each pair's result. Specification 6.7
@@ -87,11 +87,12 @@ pub data Stays : Outcome ReportAnswer → Outcome ReportAnswer → Type 0 where
   refusedAs : (n : ℕ) → Stays (refused n) (refused n)
   answeredAs : (a b : ReportAnswer) → SameLines a b → Stays (answered a) (answered b)
 
--- a text that did not get 8 keeps its refusal, or its S, U, M and R lines; its direct reading is the same. Specification 6.7
+-- a text that did not get 8 keeps its refusal, or its S, U, M and R lines; its direct reading is the same. Compared is the engine without
+-- derivation: what item 6 adds to the lines is not item 2's. Specification 6.7
 abbrev pub LinesKept : Type 0
 LinesKept =
-    ((text : Bytes) → formerOutcome text ≢ refused 8 → Stays (formerOutcome text) (reportOutcome text))
-    × ((text : Bytes) → formerDirect text ≢ refused 8 → formerDirect text ≡ directOutcome text)
+    ((text : Bytes) → formerOutcome text ≢ refused 8 → Stays (formerOutcome text) (plainOutcome text))
+    × ((text : Bytes) → formerDirect text ≢ refused 8 → formerDirect text ≡ plainDirect text)
 
 -- no call of the engine or of the direct reading answers this number. Specification 9.10, 9.12
 abbrev pub NumberUnused : ℕ → Type 0

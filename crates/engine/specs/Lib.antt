@@ -3,9 +3,11 @@ pub mod Calls
 pub mod Demand1
 pub mod Demand2
 pub mod Demand3
+pub mod Derivation
 pub mod FewerQuestions
 pub mod Former
 pub mod KeyColumns
+pub mod Plain
 pub mod Programs
 pub mod Trials
 pub mod inner

@@ -1,4 +1,4 @@
--- The starred trials of document 01, with the U lines of document 02, item 1, and the trial that item 2 answers, as one list under one proof that antt computes. Specification 13.2, 13.3, 13.4, 13.5. Assumes nothing. In a
+-- The starred trials of document 01, with the U lines of document 02, item 1, and the trial that item 2 answers, as one list under one proof that antt computes. Specification 13.2, 13.3, 13.4, 13.5, 13.6. Assumes nothing. In a
 -- `text`, | is a tab and a space parts two lines, as document 01 shows them; the last line is closed too.
 use mathlib.Core.Path.{_≡_}
 use mathlib.Core.List.{List, [], _∷_, map}
@@ -29,7 +29,7 @@ prints (trial program input expected) = program input
 abbrev pub expects : Trial → Bytes
 expects (trial program input expected) = expected
 
--- the starred trials, by program `report` and by program `direct`. Specification 13.2, 13.3, 13.4, 13.5
+-- the starred trials, by program `report` and by program `direct`. Specification 13.2, 13.3, 13.4, 13.5, 13.6
 unfoldable pub trials : List Trial
 trials =
     -- the report above, both ways
@@ -65,9 +65,9 @@ trials =
     ∷ trial reportProgram (text "T|1 D|-2147483648") (text "E|2")
     ∷ trial directProgram (text "T|1 D|-2147483648") (text "E|2")
     -- (0 L 1) I 2, last join naming 1 and 2: answered since document 02, item 2; naming 0 and 2: accepted
-    ∷ trial reportProgram (text "T|1 D|1 T|1 D|1 T|1 D|1 J|L|0|1 C|0|0|=|1|0 J|I|3|2 C|1|0|=|2|0") (text "S|0|0|1 S|1|0|1 S|2|0|1 U|0|1|0|0 U|1|1|0|0 M|I|0|1|1|0 M|I|3|2|1|1 R|0|0|0")
+    ∷ trial reportProgram (text "T|1 D|1 T|1 D|1 T|1 D|1 J|L|0|1 C|0|0|=|1|0 J|I|3|2 C|1|0|=|2|0") (text "S|0|0|1|2 S|1|0|1|2 S|2|0|1|2 U|0|1|0|0 U|1|1|0|0 U|2|1|0|0 M|I|0|1|1|0 M|I|3|2|1|1|2 R|0|0|0")
     ∷ trial directProgram (text "T|1 D|1 T|1 D|1 T|1 D|1 J|L|0|1 C|0|0|=|1|0 J|I|3|2 C|1|0|=|2|0") (text "R|0|0|0")
-    ∷ trial reportProgram (text "T|1 D|1 T|1 D|1 T|1 D|1 J|L|0|1 C|0|0|=|1|0 J|I|3|2 C|0|0|=|2|0") (text "S|0|1 S|1|0|1 S|2|1 U|0|1|0|0 U|1|1|0|0 M|L|0|1|1|0 M|I|3|2|1|1 R|0|0|0")
+    ∷ trial reportProgram (text "T|1 D|1 T|1 D|1 T|1 D|1 J|L|0|1 C|0|0|=|1|0 J|I|3|2 C|0|0|=|2|0") (text "S|0|1 S|1|0|1|2 S|2|1 U|0|1|0|0 U|1|1|0|0 U|2|1|0|0 M|L|0|1|1|0 M|I|3|2|1|1 R|0|0|0")
     ∷ trial directProgram (text "T|1 D|1 T|1 D|1 T|1 D|1 J|L|0|1 C|0|0|=|1|0 J|I|3|2 C|0|0|=|2|0") (text "R|0|0|0")
     -- a join with K lines only: 7
     ∷ trial reportProgram (text "T|1 D|1 T|1 D|1 J|L|0|1 K|0|0|=|1") (text "E|7")

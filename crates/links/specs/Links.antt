@@ -15,23 +15,23 @@ use Rattle.vocabulary.specs.Report.{Query, tableNumbers, conditionNumbers, cond
 -- ---- links
 
 -- a column: its table, and its number there. Specification 6.8
-abbrev pub Place : Type 0
-Place = ℕ × ℕ
+abbrev pub TableColumn : Type 0
+TableColumn = ℕ × ℕ
 
 -- two columns that a condition says are equal. Specification 6.8
 abbrev pub Link : Type 0
-Link = Place × Place
+Link = TableColumn × TableColumn
 
 -- Specification 6.8
-unfoldable pub samePlace : Place → Place → Bool
-samePlace a b = eqb (a .0) (b .0) && eqb (a .1) (b .1)
+unfoldable pub sameColumn : TableColumn → TableColumn → Bool
+sameColumn a b = eqb (a .0) (b .0) && eqb (a .1) (b .1)
 
 -- Specification 6.8
-unfoldable pub hasPlace : List Place → Place → Bool
-hasPlace g a = any (samePlace a) g
+unfoldable pub hasColumn : List TableColumn → TableColumn → Bool
+hasColumn g a = any (sameColumn a) g
 
 -- a column and a condition's second side: a constant is no column. Specification 6.8
-unfoldable pub sideLink : Place → Side → List Link
+unfoldable pub sideLink : TableColumn → Side → List Link
 sideLink a (Column u d) = (a, (u, d)) ∷ []
 sideLink a (Constant z) = []
 
@@ -46,54 +46,54 @@ linksOf q C = flatMap (λ k. linkOf (conditionAt q k)) C
 -- ---- chains
 
 -- "linked by a chain of one or more `=` C lines": a link taken either way round, or one chain behind another. Specification 6.8
-pub data Chain (L : List Link) : Place → Place → Type 0 where
-  along : {a b : Place} → (a, b) isIn L → Chain L a b
-  back : {a b : Place} → (a, b) isIn L → Chain L b a
-  after : {a b c : Place} → Chain L a b → Chain L b c → Chain L a c
+pub data LinkChain (L : List Link) : TableColumn → TableColumn → Type 0 where
+  along : {a b : TableColumn} → (a, b) isIn L → LinkChain L a b
+  back : {a b : TableColumn} → (a, b) isIn L → LinkChain L b a
+  after : {a b c : TableColumn} → LinkChain L a b → LinkChain L b c → LinkChain L a c
 
--- Chains are found by groups of columns, which `linked-chain` and `chain-linked` (proofs/laws/ChainLaws.antt) say is the same. Whether a
+-- Chains are found by groups of columns, which `chains-found` (engine/proofs/Derivation.antt) says is the same. Whether a
 -- group has a column of a link. Specification 6.8
-unfoldable pub touches : Link → List Place → Bool
-touches l g = hasPlace g (l .0) || hasPlace g (l .1)
+unfoldable pub touches : Link → List TableColumn → Bool
+touches l g = hasColumn g (l .0) || hasColumn g (l .1)
 
 -- the groups with one link more: those that it touches become one. Specification 6.8
-unfoldable pub joinGroups : Link → List (List Place) → List (List Place)
+unfoldable pub joinGroups : Link → List (List TableColumn) → List (List TableColumn)
 joinGroups l groups =
-    (l .0 ∷ l .1 ∷ flatMap (λ (g : List Place). g) (keep (touches l) groups)) ∷ keep (λ g. not (touches l g)) groups
+    (l .0 ∷ l .1 ∷ flatMap (λ (g : List TableColumn). g) (keep (touches l) groups)) ∷ keep (λ g. not (touches l g)) groups
 
 -- Specification 6.8
-unfoldable pub groupsOf : List Link → List (List Place)
+unfoldable pub groupsOf : List Link → List (List TableColumn)
 groupsOf [] = []
 groupsOf (l ∷ L) = joinGroups l (groupsOf L)
 
 -- whether a chain of conditions of a set links two columns. Specification 6.8
-unfoldable pub linked : Query → List ℕ → Place → Place → Bool
-linked q C a b = any (λ g. hasPlace g a && hasPlace g b) (groupsOf (linksOf q C))
+unfoldable pub chained : Query → List ℕ → TableColumn → TableColumn → Bool
+chained q C a b = any (λ g. hasColumn g a && hasColumn g b) (groupsOf (linksOf q C))
 
 -- ---- derived conditions
 
 -- whether a condition states that two columns are equal, "either way round". Specification 6.9
-unfoldable pub states : Place → Place → Condition → Bool
-states a b k = any (λ (l : Link). samePlace (l .0) a && samePlace (l .1) b || samePlace (l .0) b && samePlace (l .1) a) (linkOf k)
+unfoldable pub states : TableColumn → TableColumn → Condition → Bool
+states a b k = any (λ (l : Link). sameColumn (l .0) a && sameColumn (l .1) b || sameColumn (l .0) b && sameColumn (l .1) a) (linkOf k)
 
 -- whether one of the first n conditions states it. Specification 6.9
-unfoldable pub statedBefore : Query → ℕ → Place → Place → Bool
+unfoldable pub statedBefore : Query → ℕ → TableColumn → TableColumn → Bool
 statedBefore q n a b = any (λ i. states a b (conditionAt q i)) (range 0 n)
 
 -- every column, by table and number. Specification 6.9
-unfoldable pub placesOf : Query → List Place
-placesOf q = flatMap (λ t. map (λ c. (t, c)) (range 0 (getD (q .columns) t 0))) (tableNumbers q)
+unfoldable pub allColumns : Query → List TableColumn
+allColumns q = flatMap (λ t. map (λ c. (t, c)) (range 0 (getD (q .columns) t 0))) (tableNumbers q)
 
 -- every two columns of different tables, "by lower table, its column, higher table, its column". Specification 6.9
-unfoldable pub placePairs : Query → List Link
-placePairs q = flatMap (λ (a : Place). map (λ b. (a, b)) (keep (λ (b : Place). ltb (a .0) (b .0)) (placesOf q))) (placesOf q)
+unfoldable pub columnPairs : Query → List Link
+columnPairs q = flatMap (λ (a : TableColumn). map (λ b. (a, b)) (keep (λ (b : TableColumn). ltb (a .0) (b .0)) (allColumns q))) (allColumns q)
 
 -- the columns that a chain links in one of these sets, where no line of the report states it. Specification 6.9
 unfoldable pub derivedLinks : Query → List (List ℕ) → List Link
 derivedLinks q S =
     keep
-    (λ (l : Link). any (λ C. linked q C (l .0) (l .1)) S && not (statedBefore q (length (q .conditions)) (l .0) (l .1)))
-    (placePairs q)
+    (λ (l : Link). any (λ C. chained q C (l .0) (l .1)) S && not (statedBefore q (length (q .conditions)) (l .0) (l .1)))
+    (columnPairs q)
 
 -- "a derived `=` condition". Specification 6.9
 unfoldable pub equalOf : Link → Condition
@@ -112,12 +112,12 @@ withDerived q S = record {
 
 -- whether a condition follows from a set: a chain of the set links its two columns, and it is "the lowest-numbered such line", which is the
 -- derived condition where no written line states it. Specification 6.10
-unfoldable pub follows : Query → List ℕ → ℕ → Bool
-follows q C k = any (λ (l : Link). linked q C (l .0) (l .1) && not (statedBefore q k (l .0) (l .1))) (linkOf (conditionAt q k))
+unfoldable pub implied : Query → List ℕ → ℕ → Bool
+implied q C k = any (λ (l : Link). chained q C (l .0) (l .1) && not (statedBefore q k (l .0) (l .1))) (linkOf (conditionAt q k))
 
 -- a set with the conditions that follow from it. Specification 6.10
 unfoldable pub closeSet : Query → List ℕ → List ℕ
-closeSet q C = keep (λ k. has C k || follows q C k) (conditionNumbers q)
+closeSet q C = keep (λ k. has C k || implied q C k) (conditionNumbers q)
 
 -- Specification 6.10
 unfoldable pub closeSets : Query → List (List ℕ) → List (List ℕ)

@@ -1,7 +1,7 @@
 // The columns that a chain of `=` lines links to each column, as words.
 use crate::column;
+use crate::column::ALL_COLUMNS;
 use crate::column::ColumnLink;
-use crate::column::PLACES;
 use cells::condition::Condition;
 use cells::limits::TABLES;
 use vocabulary::bits;
@@ -14,12 +14,12 @@ ghost use Rattle.vocabulary.specs.inner.Counted.{Counted};
 ghost use Rattle.links.specs.inner.ClassWords.{noLink, linkNumbers, groupedWords, linkedWords, classWords, eitherWords, allClasses};
 
 // Each column's word with a group that it may be one of.
-fn grouped(classes: [u64; PLACES], group: u64) -> [u64; PLACES]
+fn grouped(classes: [u64; ALL_COLUMNS], group: u64) -> [u64; ALL_COLUMNS]
     ensures { λ r. ⌜ r ≡ groupedWords classes group ⌝ }
 {
-    let mut next = [0u64; PLACES];
+    let mut next = [0u64; ALL_COLUMNS];
     let mut i: usize = 0;
-    while i < PLACES {
+    while i < ALL_COLUMNS {
         let class = classes[i];
         next[i] = class | bits::only(bits::member(group, i as u64), group);
         i += 1;
@@ -28,7 +28,7 @@ fn grouped(classes: [u64; PLACES], group: u64) -> [u64; PLACES]
 }
 
 // The words with one link more: the groups of its two columns become one.
-fn linked(classes: [u64; PLACES], l: ColumnLink) -> [u64; PLACES]
+fn linked(classes: [u64; ALL_COLUMNS], l: ColumnLink) -> [u64; ALL_COLUMNS]
     ensures { λ r. ⌜ r ≡ linkedWords classes l ⌝ }
 {
     if !column::is_link(l) {
@@ -52,12 +52,12 @@ fn link_in(test: bool, c: Condition) -> ColumnLink
 }
 
 // The columns that a chain of the set's lines links to each column.
-pub(crate) fn classes_of(q: StoredQuery, set: u64) -> [u64; PLACES]
+pub(crate) fn classes_of(q: StoredQuery, set: u64) -> [u64; ALL_COLUMNS]
     requires { ⌜ Counted q ⌝ }
     ensures { λ r. ⌜ r ≡ classWords (queryIn q) set ⌝ }
 {
     let n = q.condition_count as usize;
-    let mut classes = [0u64; PLACES];
+    let mut classes = [0u64; ALL_COLUMNS];
     let mut k: usize = 0;
     while k < n {
         let c = q.conditions[k];
@@ -69,12 +69,12 @@ pub(crate) fn classes_of(q: StoredQuery, set: u64) -> [u64; PLACES]
 }
 
 // Two arrays of words, word by word.
-fn either(a: [u64; PLACES], b: [u64; PLACES]) -> [u64; PLACES]
+fn either(a: [u64; ALL_COLUMNS], b: [u64; ALL_COLUMNS]) -> [u64; ALL_COLUMNS]
     ensures { λ r. ⌜ r ≡ eitherWords a b ⌝ }
 {
-    let mut next = [0u64; PLACES];
+    let mut next = [0u64; ALL_COLUMNS];
     let mut i: usize = 0;
-    while i < PLACES {
+    while i < ALL_COLUMNS {
         next[i] = a[i] | b[i];
         i += 1;
     }
@@ -82,7 +82,7 @@ fn either(a: [u64; PLACES], b: [u64; PLACES]) -> [u64; PLACES]
 }
 
 // The words with those of one set more. Where it is the set before, which they have, they stay.
-fn with_set(q: StoredQuery, all: [u64; PLACES], before: u64, set: u64) -> [u64; PLACES]
+fn with_set(q: StoredQuery, all: [u64; ALL_COLUMNS], before: u64, set: u64) -> [u64; ALL_COLUMNS]
     requires { ⌜ Counted q × (eitherWords all (classWords (queryIn q) before) ≡ all) ⌝ }
     ensures { λ r. ⌜ r ≡ eitherWords all (classWords (queryIn q) set) ⌝ }
 {
@@ -93,7 +93,7 @@ fn with_set(q: StoredQuery, all: [u64; PLACES], before: u64, set: u64) -> [u64; 
 }
 
 // The columns that a chain of one set's lines links to each column, for any of the sets.
-pub(crate) fn all_classes(q: StoredQuery, sets: [u64; TABLES]) -> [u64; PLACES]
+pub(crate) fn all_classes(q: StoredQuery, sets: [u64; TABLES]) -> [u64; ALL_COLUMNS]
     requires { ⌜ Counted q ⌝ }
     ensures { λ r. ⌜ r ≡ allClasses (queryIn q) sets ⌝ }
 {

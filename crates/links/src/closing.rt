@@ -2,7 +2,7 @@
 use crate::apart;
 use crate::classes;
 use crate::column;
-use crate::column::PLACES;
+use crate::column::ALL_COLUMNS;
 use crate::lines;
 use cells::limits::TABLES;
 use vocabulary::bits;
@@ -11,11 +11,11 @@ ghost use mathlib.Core.Path.{_≡_};
 ghost use lib.ListN.{length};
 ghost use Rattle.vocabulary.specs.inner.Stored.{queryIn};
 ghost use Rattle.vocabulary.specs.inner.Counted.{Counted};
-ghost use Rattle.links.specs.inner.ClassWords.{linesOf, followingTo, closedWord, closedWords};
+ghost use Rattle.links.specs.inner.ClassWords.{statedLines, followingTo, closedWord, closedWords};
 ghost use Rattle.links.specs.inner.LinksWithin.{LinksWithin};
 
 // The lines that state their link first and whose columns a chain links.
-fn following(q: StoredQuery, firsts: u64, classes: [u64; PLACES]) -> u64
+fn following(q: StoredQuery, firsts: u64, classes: [u64; ALL_COLUMNS]) -> u64
     requires { ⌜ Counted q ⌝ }
     ensures { λ r. ⌜ r ≡ followingTo (queryIn q) firsts classes (length (queryIn q .conditions)) ⌝ }
 {
@@ -34,7 +34,7 @@ fn following(q: StoredQuery, firsts: u64, classes: [u64; PLACES]) -> u64
 
 // A set with what follows from it.
 fn close_set(q: StoredQuery, firsts: u64, set: u64) -> u64
-    requires { ⌜ Counted q × (firsts ≡ linesOf (queryIn q) .firsts) ⌝ }
+    requires { ⌜ Counted q × (firsts ≡ statedLines (queryIn q) .firsts) ⌝ }
     ensures { λ r. ⌜ r ≡ closedWord (queryIn q) set ⌝ }
 {
     set | following(q, firsts, classes::classes_of(q, set))
@@ -42,7 +42,7 @@ fn close_set(q: StoredQuery, firsts: u64, set: u64) -> u64
 
 // A set with what follows from it, given another set with what follows from that: tables often have the same set.
 fn close_next(q: StoredQuery, firsts: u64, before: u64, closed: u64, set: u64) -> u64
-    requires { ⌜ Counted q × (firsts ≡ linesOf (queryIn q) .firsts) × (closed ≡ closedWord (queryIn q) before) ⌝ }
+    requires { ⌜ Counted q × (firsts ≡ statedLines (queryIn q) .firsts) × (closed ≡ closedWord (queryIn q) before) ⌝ }
     ensures { λ r. ⌜ r ≡ closedWord (queryIn q) set ⌝ }
 {
     if set == before {

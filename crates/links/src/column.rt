@@ -11,7 +11,7 @@ ghost use mathlib.Core.Bool.{_&&_};
 ghost use lib.ListN.{getD};
 
 // Columns that a report may have in all: a number for each.
-pub const PLACES: usize = TABLES * COLUMNS;
+pub const ALL_COLUMNS: usize = TABLES * COLUMNS;
 
 // Two columns, by their numbers; a number that is not below 64 is no column's.
 pub struct ColumnLink {
@@ -29,9 +29,9 @@ fn column_number(table: u16, column: u16) -> usize
         if c < COLUMNS {
             return t * COLUMNS + c;
         }
-        return PLACES;
+        return ALL_COLUMNS;
     }
-    PLACES
+    ALL_COLUMNS
 }
 
 // No link.
@@ -39,8 +39,8 @@ pub(crate) fn no_link() -> ColumnLink
     ensures { λ r. ⌜ r ≡ noLink ⌝ }
 {
     ColumnLink {
-        first: PLACES,
-        second: PLACES,
+        first: ALL_COLUMNS,
+        second: ALL_COLUMNS,
     }
 }
 
@@ -66,20 +66,20 @@ pub(crate) fn link_of(c: Condition) -> ColumnLink
 pub(crate) fn is_link(l: ColumnLink) -> bool
     ensures { λ r. ⌜ r ≡ isLink l ⌝ }
 {
-    if l.first < PLACES {
-        return l.second < PLACES;
+    if l.first < ALL_COLUMNS {
+        return l.second < ALL_COLUMNS;
     }
     false
 }
 
 // Whether the columns of a link are in one group, given the columns that a chain links to each.
-pub(crate) fn in_group(classes: [u64; PLACES], l: ColumnLink) -> bool
+pub(crate) fn in_group(classes: [u64; ALL_COLUMNS], l: ColumnLink) -> bool
     ensures { λ r. ⌜ r ≡ inGroup classes l ⌝ }
 {
     let first = l.first;
     let second = l.second;
-    if first < PLACES {
-        if second < PLACES {
+    if first < ALL_COLUMNS {
+        if second < ALL_COLUMNS {
             return bits::member(classes[first], second as u64);
         }
         return false;

@@ -1,6 +1,6 @@
 // Derived conditions, behind the written ones.
 use crate::classes;
-use crate::column::PLACES;
+use crate::column::ALL_COLUMNS;
 use crate::lines;
 use cells::condition::Condition;
 use cells::condition::Side;
@@ -45,7 +45,7 @@ fn behind(i: usize) -> u64
 }
 
 // The columns with which column i gives a derived condition: linked to it, of a table behind its own, and stated by no line.
-fn derived_with(classes: [u64; PLACES], stated: [u64; PLACES], i: usize) -> u64
+fn derived_with(classes: [u64; ALL_COLUMNS], stated: [u64; ALL_COLUMNS], i: usize) -> u64
     requires { ⌜ i < wordSize ⌝ }
     ensures { λ r. ⌜ r ≡ derivedWord classes stated i ⌝ }
 {
@@ -103,7 +103,7 @@ fn with_column(s: Numbered, i: usize, word: u64) -> Numbered
 {
     let mut all = s;
     let mut j: usize = 0;
-    while j < PLACES {
+    while j < ALL_COLUMNS {
         let next = push_if(bits::member(word, j as u64), all, i, j);
         all = next;
         j += 1;
@@ -123,12 +123,12 @@ fn with_derived(s: Numbered, i: usize, word: u64) -> Numbered
 }
 
 // With the derived conditions of all columns.
-fn with_all(s: Numbered, classes: [u64; PLACES], stated: [u64; PLACES]) -> Numbered
+fn with_all(s: Numbered, classes: [u64; ALL_COLUMNS], stated: [u64; ALL_COLUMNS]) -> Numbered
     ensures { λ r. ⌜ r ≡ derivedTo s classes stated wordSize ⌝ }
 {
     let mut all = s;
     let mut i: usize = 0;
-    while i < PLACES {
+    while i < ALL_COLUMNS {
         let next = with_derived(all, i, derived_with(classes, stated, i));
         all = next;
         i += 1;

@@ -1,7 +1,7 @@
 // What the `=` lines state: for each column the columns that a line states to be equal to it, and the lines that state their link first.
 use crate::column;
+use crate::column::ALL_COLUMNS;
 use crate::column::ColumnLink;
-use crate::column::PLACES;
 use vocabulary::bits;
 use vocabulary::query::StoredQuery;
 ghost use mathlib.Core.Path.{_≡_};
@@ -10,16 +10,16 @@ ghost use lib.ListN.{length};
 ghost use Rattle.vocabulary.specs.Bits.{wordSize};
 ghost use Rattle.vocabulary.specs.inner.Stored.{queryIn};
 ghost use Rattle.vocabulary.specs.inner.Counted.{Counted};
-ghost use Rattle.links.specs.inner.ClassWords.{marked, lineTold, linesOf};
+ghost use Rattle.links.specs.inner.ClassWords.{marked, lineTold, statedLines};
 
 // Each column's word of columns, and the numbers of the lines as bits.
 pub struct Lines {
-    pub stated: [u64; PLACES],
+    pub stated: [u64; ALL_COLUMNS],
     pub firsts: u64,
 }
 
 // One more number in the word of a column.
-fn mark(words: [u64; PLACES], i: usize, k: usize) -> [u64; PLACES]
+fn mark(words: [u64; ALL_COLUMNS], i: usize, k: usize) -> [u64; ALL_COLUMNS]
     requires { ⌜ (i < wordSize) × (k < wordSize) ⌝ }
     ensures { λ r. ⌜ r ≡ marked words i k ⌝ }
 {
@@ -52,11 +52,11 @@ fn tell(s: Lines, l: ColumnLink, k: usize) -> Lines
 // What the lines of a query state.
 pub(crate) fn lines_of(q: StoredQuery) -> Lines
     requires { ⌜ Counted q ⌝ }
-    ensures { λ r. ⌜ r ≡ linesOf (queryIn q) ⌝ }
+    ensures { λ r. ⌜ r ≡ statedLines (queryIn q) ⌝ }
 {
     let n = q.condition_count as usize;
     let mut s = Lines {
-        stated: [0u64; PLACES],
+        stated: [0u64; ALL_COLUMNS],
         firsts: 0,
     };
     let mut k: usize = 0;

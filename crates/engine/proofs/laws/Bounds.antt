@@ -9,7 +9,7 @@ use lib.Dec.{T, leb, eqb}
 use lib.ListN.{length, length-map, length-append}
 use mir.Facts.{and-yes, leb-yes, eqb-yes}
 use Rattle.cells.specs.Choice.{if_then_else_}
-use Rattle.cells.specs.Limits.{mostTables, mostWritten, mostConditions, mostRows, mostCells, mostSteps}
+use Rattle.cells.specs.Limits.{mostTables, mostConditions, mostRows, mostCells, mostSteps}
 use Rattle.cells.specs.Row.{Row, blankRow}
 use Rattle.rows.specs.Lists.{any, distinct, keep, range, all, _isIn_}
 use Rattle.rows.proofs.laws.ListLaws.{keep-fewer, length-range, here}
@@ -31,21 +31,24 @@ use Rattle.vocabulary.specs.Database.{databaseOf, rowCountIn, cellsOf, database
 use Rattle.text.specs.Bytes.{Bytes}
 use Rattle.text.specs.Reading.{readReport}
 use Rattle.text.specs.TableQuestions.{cellsInTables, tableFits, question3}
-use Rattle.plan.specs.Questions.{question6, question9, orderQuestions}
-use Rattle.plan.specs.Plan.{groundOf, plannedJoins, missing, asks, blankings, stepsOf, planTrees, planTree}
+use Rattle.plan.specs.Full.{fullQuery, fullReport}
+use Rattle.plan.specs.Questions.{question9, question13, orderQuestions}
+use Rattle.plan.proofs.laws.FullLaws.{tables-same}
+use Rattle.plan.specs.Plan.{closedSets, groundOf, plannedJoins, missing, asks, blankings, stepsOf, planTrees, planTree}
 use Rattle.plan.proofs.laws.PairWordLaws.{planned-count}
 use Rattle.plan.proofs.laws.PlanLaws.{plan-matched, order-built, plan-shaped}
-use Rattle.plan.proofs.laws.FoldWords.{blanking-proper}
-use Rattle.plan.specs.Sets.{blankingSets}
+use Rattle.plan.proofs.laws.ClosedSetLaws.{sets-proper}
 use Rattle.plan.proofs.laws.QueryLaws.{Accepted, query-matched, query-built, query-shaped}
 use Rattle.prepare.specs.Asking.{sharedQuestions, questionsOfReport, questionsOfDirect}
-use Rattle.prepare.proofs.laws.PassedLaws.{three-yes, report-accepted, rows-limit, few-rows, read-well}
+use Rattle.prepare.proofs.laws.PassedLaws.{three-yes, shared-passed, query-thirteen, report-accepted, rows-limit, few-rows, read-well}
+use Rattle.prepare.proofs.laws.FullStanding.{full-report, full-rows}
 use Rattle.executor.proofs.laws.DatabaseLaws.{lawful, lawful-names, database-width}
 use Rattle.executor.proofs.laws.LimitLaws.{within-small, results-whole}
 use Rattle.executor.proofs.laws.Padding.{finished-wide}
 use Rattle.executor.specs.Runs.{results, withinLimit, directRows, question11Direct, runRows, reportRows, pairCounts, reportSteps, question11}
-use Rattle.engine.specs.Answers.{answered, directQuestions, reportQuestions, ReportAnswer, reportAnswer, reportOutcome, directOutcome}
+use Rattle.engine.specs.Answers.{answered, directQuestions, reportQuestions, ReportAnswer, planAnswer, reportAnswer, reportOutcome, directOutcome}
 use Rattle.engine.proofs.laws.AnswerLaws.{answered-report}
+use Rattle.engine.proofs.laws.FullRows.{full-ok, full-nine}
 use Rattle.engine.specs.Calls.{tableCountOf}
 
 -- best match adds no row
@@ -127,14 +130,6 @@ module _ (r : Report) (well : WellRead (queryOf r)) (accepted : firstNo sharedQu
       let z : n ≤ mostTables = leb-yes y in
       omega (arith, z, length-map (r .tables) (λ (t : Table). t .columns))
 
-  -- at most as many conditions as memory has room for
-  pub conditions-few : length (tallies r) ≤ mostConditions
-  unfolding question6 tallies queryOf
-  conditions-few =
-      let (a, _) = and-yes (leb (length (r .conditions)) mostWritten) _ (ok .six) in
-      let z : length (r .conditions) ≤ mostWritten = leb-yes a in
-      omega (arith, z, length-map (r .conditions) (conditionTally (rowCountIn r) (cellsOf r)))
-
   few-each : (t : ℕ) → database r .rowCount t ≤ mostRows
   unfolding database databaseOf
   few-each t = rows-limit r three t
@@ -160,34 +155,56 @@ module _ (r : Report) (well : WellRead (queryOf r)) (accepted : firstNo sharedQu
       (λ row m. rows-valid laws (joinTree q)
       (query-shaped q ok laws (database-width q (rowCountIn r) (cellsOf r) small) (lawful-names q (rowCountIn r) (cellsOf r) small)) row m .len)
 
-  -- ---- the plan
+-- ---- the plan of a report, given all its conditions
 
-  module _ (nine : T (question9 q)) where
-    built : T (wellBuilt (tableCount q) (joinOrder q))
-    built = order-built q (ok .five) nine
+module _ (r : Report) (ok : Accepted (queryOf r)) (few-tables : tableCount (queryOf r) ≤ mostTables) (rows : (t : ℕ) → rowCountIn r t ≤ mostRows)
+    (nine : T (question9 (queryOf r))) where
+  abbrev p : Query
+  p = queryOf r
 
-    pub steps-few : length (reportSteps r) ≤ mostSteps
-    unfolding reportSteps wellBuilt
-    steps-few =
-        let n = length (joinOrder q) in
-        let (a, _) = and-yes (eqb (suc n) (tableCount q) && lowerSides (tableCount q) (joinOrder q)) (noneTwice (sidesOf (joinOrder q))) built in
-        let e : suc n ≡ tableCount q = eqb-yes (and-yes (eqb (suc n) (tableCount q)) (lowerSides (tableCount q) (joinOrder q)) a .0) in
-        omega (arith, plan-steps q (pairCounts r), e, tables-few)
+  each-few : (t : ℕ) → database r .rowCount t ≤ mostRows
+  unfolding database databaseOf
+  each-few = rows
 
-    pub report-few : T (question11 r) → length (reportRows r) ≤ mostRows
-    unfolding question11 withinLimit results planTree planTrees reportRows runRows planRows
-    report-few h =
-        let y = within-small (database r) few-each (planTree (groundOf q)) (results-whole (database r) few-each q (plan-matched (groundOf q)) built h) in
-        let z : length (rowsOf (database r) (planTree (groundOf q))) ≤ mostRows = leb-yes y in
-        omega (arith, finished-fewer (database r) (blankings (groundOf q)) (rowsOf (database r) (planTree (groundOf q))), z)
+  no-blank : (t : ℕ) → rowCountIn r t ≤ blankRow
+  unfolding blankRow
+  no-blank t = omega (arith, rows t)
 
-    pub report-wide : (row : Row) → row isIn reportRows r → length row ≡ tableCount q
-    unfolding reportRows runRows planRows database databaseOf
-    report-wide = finished-wide (database r) (tableCount q) (blankings (groundOf q)) (rowsOf (database r) (planTree (groundOf q)))
-        (λ row m. rows-valid laws (planTree (groundOf q))
-        (plan-shaped (groundOf q) laws (database-width q (rowCountIn r) (cellsOf r) small) (lawful-names q (rowCountIn r) (cellsOf r) small) built) row m .len)
+  abbrev plan-laws : Lawful (databaseOf p (rowCountIn r) (cellsOf r))
+  plan-laws = lawful p (rowCountIn r) (cellsOf r) no-blank
+
+  built : T (wellBuilt (tableCount p) (joinOrder p))
+  built = order-built p (ok .five) nine
+
+  pub steps-few : length (reportSteps r) ≤ mostSteps
+  unfolding reportSteps wellBuilt
+  steps-few =
+      let n = length (joinOrder p) in
+      let (a, _) = and-yes (eqb (suc n) (tableCount p) && lowerSides (tableCount p) (joinOrder p)) (noneTwice (sidesOf (joinOrder p))) built in
+      let e : suc n ≡ tableCount p = eqb-yes (and-yes (eqb (suc n) (tableCount p)) (lowerSides (tableCount p) (joinOrder p)) a .0) in
+      omega (arith, plan-steps p (pairCounts r), e, few-tables)
+
+  pub report-few : T (question11 r) → length (reportRows r) ≤ mostRows
+  unfolding question11 withinLimit results planTree planTrees reportRows runRows planRows
+  report-few h =
+      let y = within-small (database r) each-few (planTree (groundOf p)) (results-whole (database r) each-few p (plan-matched (groundOf p)) built h) in
+      let z : length (rowsOf (database r) (planTree (groundOf p))) ≤ mostRows = leb-yes y in
+      omega (arith, finished-fewer (database r) (blankings (groundOf p)) (rowsOf (database r) (planTree (groundOf p))), z)
+
+  pub report-wide : (row : Row) → row isIn reportRows r → length row ≡ tableCount p
+  unfolding reportRows runRows planRows database databaseOf
+  report-wide = finished-wide (database r) (tableCount p) (blankings (groundOf p)) (rowsOf (database r) (planTree (groundOf p)))
+      (λ row m. rows-valid plan-laws (planTree (groundOf p))
+      (plan-shaped (groundOf p) plan-laws (database-width p (rowCountIn r) (cellsOf r) no-blank) (lawful-names p (rowCountIn r) (cellsOf r) no-blank) built) row m .len)
 
 -- ---- a text that is answered
+
+-- question 13: no more conditions than memory has room for
+conditions-few : (r : Report) → firstNo sharedQuestions r ≡ none → length (tallies (fullReport r)) ≤ mostConditions
+unfolding question13 tallies fullReport
+conditions-few r e =
+    let z : length (fullQuery (queryOf r) .conditions) ≤ mostConditions = leb-yes (query-thirteen (queryOf r) (shared-passed r e .1)) in
+    omega (arith, z, length-map (fullQuery (queryOf r) .conditions) (conditionTally (rowCountIn (fullReport r)) (cellsOf (fullReport r))))
 
 -- what an answer of either run has
 pub record Bounded (tables : ℕ) (rows : List Row) : Type 0 where
@@ -214,19 +231,27 @@ module _ (bs : Bytes) where
 
   pub report-bounded : (a : ReportAnswer) → reportOutcome bs ≡ answered a
       → Bounded (length (a .sets)) (a .rows) × (length (a .steps) ≤ mostSteps) × (length (a .tallies) ≤ mostConditions)
-  unfolding reportOutcome reportQuestions questionsOfReport orderQuestions reportAnswer
+  unfolding reportOutcome reportQuestions questionsOfReport orderQuestions reportAnswer planAnswer
   report-bounded a e =
       let (r, f, g, h) = answered-report reportQuestions reportAnswer bs a e in
-      let (i, k) = append-yes (sharedQuestions ++ about queryOf orderQuestions) ((11, λ (r : Report). question11 r) ∷ []) r g in
+      let (i, k) = append-yes (sharedQuestions ++ about queryOf orderQuestions) ((11, λ (r : Report). question11 (fullReport r)) ∷ []) r g in
       let (x, y) = append-yes sharedQuestions (about queryOf orderQuestions) r i in
-      let q = queryOf r in
-      let nine = all-yes orderQuestions q (sym (first-about queryOf orderQuestions r) ∙ y) (9, λ (z : Query). question9 z) (here refl) in
-      let (z, _) = first-yes (11, λ (r : Report). question11 r) [] r k in
+      let full = fullReport r in
+      let q = queryOf full in
+      let nine = all-yes orderQuestions (queryOf r) (sym (first-about queryOf orderQuestions r) ∙ y) (9, λ (z : Query). question9 z) (here refl) in
+      let (z, _) = first-yes (11, λ (r : Report). question11 (fullReport r)) [] r k in
       let well = read-well bs r f in
-      let n : tableCount q ≡ length (map bitsOf (blankingSets q)) = sym (length-map (blankingSets q) bitsOf ∙ blanking-proper q .each) in
+      let good = report-accepted r x well in
+      let n : tableCount q ≡ length (map bitsOf (closedSets q)) = sym (length-map (closedSets q) bitsOf ∙ sets-proper q .each) in
+      let few : tableCount q ≤ mostTables = subst (λ (m : ℕ). m ≤ mostTables) (sym (ap tableCount (full-report r) ∙ tables-same (queryOf r))) (tables-few r well x) in
+      let rows : (t : ℕ) → rowCountIn full t ≤ mostRows = λ t. subst (λ (m : ℕ). m ≤ mostRows) (sym (full-rows r t)) (rows-limit r (three-yes r x) t) in
       subst (λ (b : ReportAnswer). Bounded (length (b .sets)) (b .rows) × (length (b .steps) ≤ mostSteps) × (length (b .tallies) ≤ mostConditions)) h (
-        subst (λ (m : ℕ). Bounded m (reportRows r)) n
-            (record { eight = tables-few r well x; few = report-few r well x nine z; wide = report-wide r well x nine }),
-        steps-few r well x nine,
-        conditions-few r well x,
+        subst (λ (m : ℕ). Bounded m (reportRows full)) n
+            (record {
+              eight = few;
+              few = report-few full (full-ok r good) few rows (full-nine r good nine) z;
+              wide = report-wide full (full-ok r good) few rows (full-nine r good nine);
+            }),
+        steps-few full (full-ok r good) few rows (full-nine r good nine),
+        conditions-few r x,
       )

@@ -1,14 +1,14 @@
 -- Demand 3 is not empty: document 01's report with its order changed and a list of steps that is not the engine's own, computed; and a
 -- report that document 01's question 8 turned down, which document 02, item 2, answers; one that it passed and that loses a blanking step; and
 -- one whose conditions would pull a pair different ways by document 01's sets, and one that question 6 turns down whose conditions do
--- (document 02, item 5). Assumes nothing.
+-- (document 02, item 5); and one in which a product becomes a join by a derived condition (item 6). Assumes nothing.
 use mathlib.Core.Path.{_≡_, refl}
 use mathlib.Core.Bool.{true, false}
 use mathlib.Core.List.{List, [], _∷_}
 use mathlib.Core.Option.{none, some}
 use Prim.Native.Nat.{ℕ}
 use Rattle.rows.specs.Nullification.{Blanking}
-use Rattle.rows.specs.declared.kind.Kind.the-variants.{Inner}
+use Rattle.rows.specs.declared.kind.Kind.the-variants.{Inner, Outer, Product}
 use Rattle.vocabulary.specs.Asking.{firstNo}
 use Rattle.vocabulary.specs.Report.{queryOf}
 use Rattle.text.specs.Bytes.{Bytes}
@@ -17,7 +17,8 @@ use Rattle.text.specs.Reading.{textLines, reportOf}
 use Rattle.text.specs.QueryLines.{isOrder, queryLines}
 use Rattle.plan.specs.Questions.{orderQuestions}
 use Rattle.plan.specs.Sets.{blankingSets}
-use Rattle.plan.specs.Plan.{groundOf, usable, usableAt, planned, blankings}
+use Rattle.plan.specs.Plan.{groundOf, plainGround, usable, usableAt, planned, blankings}
+use Rattle.plan.specs.Full.{fullReport}
 use Rattle.plan.specs.Former.{formerSets, formerGround, formerBlankings, question10}
 use Rattle.plan.specs.FourKinds.{inOneAlone, pullApart}
 use Rattle.plan.specs.BlankingLists.{BlankingList}
@@ -46,7 +47,7 @@ changed = text "T|2 D|10|1 D|11|2 T|2 D|10|7 D|11|8 T|1 D|7 J|I|1|2 C|1|1|=|2|0 
 unfoldable pub splitList : List (Blanking ℕ)
 splitList = (2, 1 ∷ []) ∷ (2, 0 ∷ []) ∷ (2, 1 ∷ 0 ∷ []) ∷ []
 
-engine-list : blankings (groundOf (queryOf (reportOf (linesIn changed)))) ≡ (2, 0 ∷ 1 ∷ []) ∷ []
+engine-list : blankings (groundOf (queryOf (fullReport (reportOf (linesIn changed))))) ≡ (2, 0 ∷ 1 ∷ []) ∷ []
 unfolding computing changed linesIn text notation
 engine-list = refl
 
@@ -61,16 +62,16 @@ same-query = record {
   order-admitted = refl;
 }
 
-split-allowed : BlankingList (groundOf (queryOf (reportOf (linesIn changed)))) splitList
+split-allowed : BlankingList (groundOf (queryOf (fullReport (reportOf (linesIn changed))))) splitList
 unfolding computing changed linesIn text notation isBlankingList splitList
-split-allowed = blanking-list (groundOf (queryOf (reportOf (linesIn changed)))) splitList tt
+split-allowed = blanking-list (groundOf (queryOf (fullReport (reportOf (linesIn changed))))) splitList tt
 
 -- by demand 3
-by-demand-3 : runRows (reportOf (linesIn changed)) splitList ≡ directRows (reportOf (linesIn givenText))
+by-demand-3 : runRows (fullReport (reportOf (linesIn changed))) splitList ≡ directRows (reportOf (linesIn givenText))
 by-demand-3 = demand-3 givenText changed (linesIn givenText) (linesIn changed) same-query splitList split-allowed
 
 -- and computed: R|0|0|0 and R|1|-|-
-run-computed : runRows (reportOf (linesIn changed)) splitList ≡ (0 ∷ 0 ∷ 0 ∷ []) ∷ (1 ∷ 65535 ∷ 65535 ∷ []) ∷ []
+run-computed : runRows (fullReport (reportOf (linesIn changed))) splitList ≡ (0 ∷ 0 ∷ 0 ∷ []) ∷ (1 ∷ 65535 ∷ 65535 ∷ []) ∷ []
 unfolding computing changed linesIn text notation splitList
 run-computed = refl
 
@@ -98,7 +99,7 @@ undone-direct : directRows (reportOf (linesIn undone)) ≡ (65535 ∷ 65535 ∷ 
 unfolding computing undone linesIn text notation
 undone-direct = refl
 
-undone-run : reportRows (reportOf (linesIn undone)) ≡ (65535 ∷ 65535 ∷ 0 ∷ []) ∷ []
+undone-run : reportRows (fullReport (reportOf (linesIn undone))) ≡ (65535 ∷ 65535 ∷ 0 ∷ []) ∷ []
 unfolding computing undone linesIn text notation
 undone-run = refl
 
@@ -123,7 +124,7 @@ unfolding computing formerly chained linesIn text notation
 chained-formerly = refl
 
 -- now there is none
-chained-now : blankings (groundOf (queryOf (reportOf (linesIn chained)))) ≡ []
+chained-now : blankings (groundOf (queryOf (fullReport (reportOf (linesIn chained))))) ≡ []
 unfolding computing chained linesIn text notation
 chained-now = refl
 
@@ -137,8 +138,8 @@ crossed-accepted : firstNo sharedQuestions (reportOf (linesIn crossed)) ≡ none
 unfolding computing crossed linesIn text notation
 crossed-accepted = refl
 
--- at that pair three conditions are usable, and it is an inner join
-crossed-planned : planned (groundOf (queryOf (reportOf (linesIn crossed)))) (4, 5)
+-- at that pair three written conditions are usable, and it is an inner join
+crossed-planned : planned (plainGround (queryOf (reportOf (linesIn crossed)))) (4, 5)
     ≡ record { kind = Inner; left = 4; right = 5; conditions = 0 ∷ 1 ∷ 2 ∷ [] }
 unfolding computing crossed linesIn text notation
 crossed-planned = refl
@@ -180,3 +181,20 @@ outside-usable = refl
 outside-apart : pullApart (blankingSets (queryOf (reportOf (linesIn outside)))) (1 ∷ []) (3 ∷ []) 3 1 ≡ true
 unfolding computing outside linesIn text notation pullApart inOneAlone
 outside-apart = refl
+
+-- ---- links that follow from links (document 02, item 6)
+
+-- hours match strains and strains match temperatures, and the order joins hours with temperatures first
+unfoldable pub stamps : Bytes
+stamps = text "T|1 D|1 D|2 T|1 D|1 D|2 T|1 D|1 J|L|0|1 C|0|0|=|1|0 J|L|3|2 C|1|0|=|2|0 P|0|2 P|3|1"
+
+-- without derivation that pair is a product
+stamps-plain : planned (plainGround (queryOf (reportOf (linesIn stamps)))) (0, 2) ≡ record { kind = Product; left = 0; right = 2; conditions = [] }
+unfolding computing stamps linesIn text notation
+stamps-plain = refl
+
+-- with the derived condition, number 2, it is a join
+stamps-joined : planned (groundOf (queryOf (fullReport (reportOf (linesIn stamps))))) (0, 2)
+    ≡ record { kind = Outer; left = 0; right = 2; conditions = 2 ∷ [] }
+unfolding computing stamps linesIn text notation
+stamps-joined = refl

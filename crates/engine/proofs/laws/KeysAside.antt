@@ -14,15 +14,17 @@ use Rattle.rows.specs.Lists.{all}
 use Rattle.rows.proofs.laws.ListLaws.{all-map}
 use Rattle.vocabulary.specs.Report.{Table, Report, Query, queryOf}
 use Rattle.vocabulary.specs.Asking.{Question, firstNo, about}
-use Rattle.vocabulary.specs.Database.{tableAt, rowCountIn, cellsOf, database}
+use Rattle.vocabulary.specs.Database.{databaseOf, tableAt, rowCountIn, cellsOf, database}
 use Rattle.vocabulary.specs.KeyColumns.{keyHolds, question12, keyQuestions}
 use Rattle.vocabulary.specs.Tallies.{conditionTally, tallies}
 use Rattle.vocabulary.proofs.laws.AskingLaws.{append-yes, asked-yes, none-left, none-then, first-about}
 use Rattle.text.specs.TableQuestions.{cellsInRows, cellsInTables, tableFits, question3, question4, tableQuestions}
+use Rattle.plan.specs.Full.{fullQuery, fullReport}
 use Rattle.plan.specs.Questions.{queryQuestions, orderQuestions}
+use Rattle.prepare.proofs.laws.FullStanding.{full-report, full-rows, full-cells}
 use Rattle.prepare.specs.Asking.{sharedQuestions, questionsOfReport, questionsOfDirect}
 use Rattle.executor.specs.Runs.{results, withinLimit, directRows, question11, question11Direct, runRows, reportRows, pairCounts, reportSteps}
-use Rattle.engine.specs.Answers.{reportQuestions, reportAnswer, directQuestions}
+use Rattle.engine.specs.Answers.{reportQuestions, planAnswer, reportAnswer, directQuestions}
 use Rattle.engine.specs.KeyColumns.{withoutKeys}
 
 -- a table without its key column
@@ -65,15 +67,36 @@ module _ (r : Report) where
   unfolding database
   database-same = rw (query-same, rows-same, cells-same)
 
+  -- ---- the same with its derived conditions
+
+  full-query-same : queryOf (fullReport s) ≡ queryOf (fullReport r)
+  full-query-same = full-report s ∙ ap fullQuery query-same ∙ sym (full-report r)
+
+  full-database-same : database (fullReport s) ≡ database (fullReport r)
+  unfolding database
+  full-database-same =
+      ap (λ (q : Query). databaseOf q (rowCountIn (fullReport s)) (cellsOf (fullReport s))) full-query-same
+      ∙ ap₂ (λ (n : ℕ → ℕ) (f : Cells). databaseOf (queryOf (fullReport r)) n f)
+      (fun-ext (λ t. full-rows s t ∙ (λ i. rows-same i t) ∙ sym (full-rows r t)))
+      (fun-ext (λ t. fun-ext (λ row. fun-ext (λ c. full-cells s t row c ∙ (λ i. cells-same i t row c) ∙ sym (full-cells r t row c)))))
+
   -- ---- its answers
 
-  tallies-same : tallies s ≡ tallies r
-  unfolding tallies withoutKeys
-  tallies-same = ap₂ (λ (n : ℕ → ℕ) (f : Cells). map (conditionTally n f) (r .conditions)) rows-same cells-same
+  full-conditions-same : fullReport s .conditions ≡ fullReport r .conditions
+  unfolding fullReport
+  full-conditions-same = ap (λ (q : Query). fullQuery q .conditions) query-same
+
+  tallies-same : tallies (fullReport s) ≡ tallies (fullReport r)
+  unfolding tallies
+  tallies-same =
+      ap (map (conditionTally (rowCountIn (fullReport s)) (cellsOf (fullReport s)))) full-conditions-same
+      ∙ ap₂ (λ (n : ℕ → ℕ) (f : Cells). map (conditionTally n f) (fullReport r .conditions))
+      (fun-ext (λ t. full-rows s t ∙ (λ i. rows-same i t) ∙ sym (full-rows r t)))
+      (fun-ext (λ t. fun-ext (λ row. fun-ext (λ c. full-cells s t row c ∙ (λ i. cells-same i t row c) ∙ sym (full-cells r t row c)))))
 
   pub answer-same : reportAnswer s ≡ reportAnswer r
-  unfolding reportAnswer reportSteps reportRows runRows pairCounts results
-  answer-same = rw (query-same, database-same, tallies-same)
+  unfolding reportAnswer planAnswer reportSteps reportRows runRows pairCounts results
+  answer-same = rw (full-query-same, full-database-same, tallies-same)
 
   pub direct-same : directRows s ≡ directRows r
   unfolding directRows
@@ -89,9 +112,9 @@ module _ (r : Report) where
   unfolding question4 withoutKeys
   four-same = all-map (λ (t : Table). all (λ (zs : List ℤ). eqb (length zs) (t .columns)) (t .rows)) bare (r .tables)
 
-  eleven-same : question11 s ≡ question11 r
+  eleven-same : question11 (fullReport s) ≡ question11 (fullReport r)
   unfolding question11 results withinLimit
-  eleven-same = rw (query-same, database-same)
+  eleven-same = rw (full-query-same, full-database-same)
 
   eleven-direct-same : question11Direct s ≡ question11Direct r
   unfolding question11Direct results withinLimit
@@ -128,7 +151,7 @@ module _ (r : Report) where
   pub report-kept : firstNo reportQuestions r ≡ none → firstNo reportQuestions s ≡ none
   unfolding reportQuestions questionsOfReport firstNo
   report-kept e =
-      let eleven : List (Question Report) = (11, λ (z : Report). question11 z) ∷ [] in
+      let eleven : List (Question Report) = (11, λ (z : Report). question11 (fullReport z)) ∷ [] in
       let (a, b) = append-yes (sharedQuestions ++ about queryOf orderQuestions) eleven r e in
       let (c, d) = append-yes sharedQuestions (about queryOf orderQuestions) r a in
       none-then (sharedQuestions ++ about queryOf orderQuestions) eleven s

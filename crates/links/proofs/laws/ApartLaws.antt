@@ -22,8 +22,8 @@ use Rattle.vocabulary.specs.Bits.{wordSize, hasBit}
 use Rattle.vocabulary.specs.declared.query.StoredQuery.{StoredQuery}
 use Rattle.vocabulary.proofs.laws.BitLaws.{bit-elim, same-bits, has-without}
 use Rattle.vocabulary.proofs.laws.WordLaws.{or-elim, or-intro, and-elim, and-intro, none-elim, tab-length, tab-at}
-use Rattle.links.specs.Links.{Place, Link, Chain, along, back, after, linkOf, linksOf}
-use Rattle.links.specs.inner.ClassWords.{linkNumbers, isLink, columnsWord, seenMore, seenTo, linesApart, inGroup, classWords, allClasses, linesOf, followingTo, closedWord, closedWords, behindWord, derivedWord, columnTo, derivedTo, derivedNumbered, withNumbered}
+use Rattle.links.specs.Links.{TableColumn, Link, LinkChain, along, back, after, linkOf, linksOf}
+use Rattle.links.specs.inner.ClassWords.{linkNumbers, isLink, columnsWord, seenMore, seenTo, linesApart, inGroup, classWords, allClasses, statedLines, followingTo, closedWord, closedWords, behindWord, derivedWord, columnTo, derivedTo, derivedNumbered, withNumbered}
 use Rattle.links.specs.inner.LinksWithin.{Inside, LinksWithin}
 use Rattle.links.specs.declared.column.ColumnLink.{ColumnLink}
 use Rattle.links.specs.declared.derived.Numbered.{Numbered}
@@ -32,7 +32,7 @@ use Rattle.links.proofs.laws.ClassSteps.{column-none}
 use Rattle.links.proofs.laws.ClosedWordLaws.{following-elim, group-elim}
 use Rattle.links.proofs.laws.DerivedWordLaws.{inside-at, number-at, set-elim}
 use Rattle.links.proofs.laws.LineLaws.{Says, states-intro, stated-intro, first-word, stated-word}
-use Rattle.links.proofs.laws.PlaceLaws.{placeAt}
+use Rattle.links.proofs.laws.ColumnLaws.{columnAt}
 
 -- ---- one way out, one line more
 
@@ -54,12 +54,12 @@ seen-next q n = rw (add-one n)
 -- ---- lines that share no column
 
 -- a column of a link
-abbrev End : Link → Place → Type 0
+abbrev End : Link → TableColumn → Type 0
 End l a = (a ≡ l .0) ⊎ (a ≡ l .1)
 
 module _ (q : Query) (within : LinksWithin q) where
   -- the word of a line's columns has each of them
-  word-has : (k : ℕ) (l : Link) → l isIn linkOf (conditionAt q k) → (a : Place) → End l a → T (hasBit (columnsWord (linkNumbers (conditionAt q k))) (numberOf a))
+  word-has : (k : ℕ) (l : Link) → l isIn linkOf (conditionAt q k) → (a : TableColumn) → End l a → T (hasBit (columnsWord (linkNumbers (conditionAt q k))) (numberOf a))
   unfolding isLink
   word-has k l m a s = subst (λ (w : ℕ). T (hasBit w (numberOf a))) (sym word)
       (or-intro (2 ^ numberOf (l .0)) (2 ^ numberOf (l .1)) (numberOf a)
@@ -72,7 +72,7 @@ module _ (q : Query) (within : LinksWithin q) where
       word = ap columnsWord (numbers-of (conditionAt q k) l m .1) ∙ columns-link (numbered l) link
 
   -- the columns of the lines so far
-  seen-has : (n k : ℕ) → k < n → (l : Link) → l isIn linkOf (conditionAt q k) → (a : Place) → End l a → T (hasBit (seenTo q n .columns) (numberOf a))
+  seen-has : (n k : ℕ) → k < n → (l : Link) → l isIn linkOf (conditionAt q k) → (a : TableColumn) → End l a → T (hasBit (seenTo q n .columns) (numberOf a))
   unfolding seenTo seenMore
   seen-has zero k h l m a s = absurd (omega arith)
   seen-has (suc n) k h l m a s = or-intro (seenTo q n .columns) (columnsWord (linkNumbers (conditionAt q n))) (numberOf a) (by-cases (ℕ-discrete k n)
@@ -81,7 +81,7 @@ module _ (q : Query) (within : LinksWithin q) where
 
   -- a line shares no column with one before it
   before-apart : (n : ℕ) → T (seenTo q n .apart) → (j k : ℕ) → j < k → k < n → (l m : Link) → l isIn linkOf (conditionAt q j) → m isIn linkOf (conditionAt q k)
-      → (a : Place) → End l a → End m a → ⊥
+      → (a : TableColumn) → End l a → End m a → ⊥
   unfolding seenTo seenMore
   before-apart zero t j k h i l m x y a u v = omega arith
   before-apart (suc n) t j k h i l m x y a u v =
@@ -98,18 +98,18 @@ module _ (q : Query) (within : LinksWithin q) where
 
     -- lines that share a column are one
     share-same : (j k : ℕ) → j < n → k < n → (l m : Link) → l isIn linkOf (conditionAt q j) → m isIn linkOf (conditionAt q k)
-        → (a : Place) → End l a → End m a → j ≡ k
+        → (a : TableColumn) → End l a → End m a → j ≡ k
     unfolding linesApart
     share-same j k h i l m x y a u v = by-cases (ℕ-discrete j k) (λ e. e) (λ e. absurd (by-cases (decLt j k)
         (λ f. before-apart n (subst T (sym apart) tt) j k f i l m x y a u v)
         (λ f. before-apart n (subst T (sym apart) tt) k j (omega arith) h m l y x a v u)))
 
     -- one line of the set has both columns
-    abbrev OneLine : ℕ → Place → Place → Type 0
+    abbrev OneLine : ℕ → TableColumn → TableColumn → Type 0
     OneLine w a b = (k : ℕ) × (k < n) × T (hasBit w k) × (l : Link) × l isIn linkOf (conditionAt q k) × End l a × End l b
 
     module _ (w : ℕ) where
-      link-line : {a b : Place} → (a, b) isIn linksTo q within w n → (k : ℕ) × (k < n) × T (hasBit w k) × (a, b) isIn linkOf (conditionAt q k)
+      link-line : {a b : TableColumn} → (a, b) isIn linksTo q within w n → (k : ℕ) × (k < n) × T (hasBit w k) × (a, b) isIn linkOf (conditionAt q k)
       unfolding linksOf
       link-line m =
           let (k, i, j) = flatMap-elim (λ (k : ℕ). linkOf (conditionAt q k)) (keep (hasBit w) (range 0 n)) m in
@@ -117,7 +117,7 @@ module _ (q : Query) (within : LinksWithin q) where
           (k, (let s = range-elim 0 n r in omega arith), t, j)
 
       -- a chain of lines is one line
-      chain-line : {a b : Place} → Chain (linksTo q within w n) a b → OneLine w a b
+      chain-line : {a b : TableColumn} → LinkChain (linksTo q within w n) a b → OneLine w a b
       chain-line (along {a} {b} m) = let (k, h, t, i) = link-line m in (k, h, t, (a, b), i, inl refl, inr refl)
       chain-line (back {a} {b} m) = let (k, h, t, i) = link-line m in (k, h, t, (a, b), i, inr refl, inl refl)
       chain-line (after {a} {b} {c} p r) =
@@ -130,20 +130,20 @@ module _ (q : Query) (within : LinksWithin q) where
           single : (m l : Link) → m isIn (l ∷ []) → m ≡ l
           single m l (here e) = e
 
-      class-line : (a b : Place) → Inside a → Inside b → T (hasBit (getD (classWords q w) (numberOf a) 0) (numberOf b)) → OneLine w a b
+      class-line : (a b : TableColumn) → Inside a → Inside b → T (hasBit (getD (classWords q w) (numberOf a) 0) (numberOf b)) → OneLine w a b
       unfolding classWords
       class-line a b x y t = chain-line (classes-to q within w n a b x y .0 t)
 
       -- a line that has the first of the two columns is that line
-      line-in : (a b : Place) → OneLine w a b → (k : ℕ) → k < n → (l : Link) → l isIn linkOf (conditionAt q k) → End l a → T (hasBit w k)
+      line-in : (a b : TableColumn) → OneLine w a b → (k : ℕ) → k < n → (l : Link) → l isIn linkOf (conditionAt q k) → End l a → T (hasBit w k)
       line-in a b (j, i, s, m, y, z, o) k h l x u = subst (λ (e : ℕ). T (hasBit w e)) (share-same j k i h m l y x a z u) s
 
       -- what follows from a set is in it
-      follow-in : (k : ℕ) → T (hasBit (followingTo q (linesOf q .firsts) (classWords q w) n) k) → T (hasBit w k)
-      unfolding linesOf
+      follow-in : (k : ℕ) → T (hasBit (followingTo q (statedLines q .firsts) (classWords q w) n) k) → T (hasBit w k)
+      unfolding statedLines
       follow-in k t =
-          let (h, u) = following-elim q (linesOf q .firsts) (classWords q w) n k t in
-          let (v, g) = and-yes (hasBit (linesOf q .firsts) k) (inGroup (classWords q w) (linkNumbers (conditionAt q k))) u in
+          let (h, u) = following-elim q (statedLines q .firsts) (classWords q w) n k t in
+          let (v, g) = and-yes (hasBit (statedLines q .firsts) k) (inGroup (classWords q w) (linkNumbers (conditionAt q k))) u in
           let (l, e, f) = first-word q within n k .0 v .1 in
           let m : l isIn linkOf (conditionAt q k) = subst (λ (z : List Link). l isIn z) (sym e) (here refl) in
           let (x, y) = within k l m in
@@ -154,8 +154,8 @@ module _ (q : Query) (within : LinksWithin q) where
       closed-same : closedWord q w ≡ w
       unfolding closedWord
       closed-same = same-bits (closedWord q w) w (λ k. (
-        λ t. ⊎-elim (λ u. u) (follow-in k) (or-elim w (followingTo q (linesOf q .firsts) (classWords q w) n) k t),
-        λ t. or-intro w (followingTo q (linesOf q .firsts) (classWords q w) n) k (inl t),
+        λ t. ⊎-elim (λ u. u) (follow-in k) (or-elim w (followingTo q (statedLines q .firsts) (classWords q w) n) k t),
+        λ t. or-intro w (followingTo q (statedLines q .firsts) (classWords q w) n) k (inl t),
       ))
 
     -- every set has what follows from it
@@ -175,38 +175,38 @@ module _ (q : Query) (within : LinksWithin q) where
         ((let u = range-elim 0 wordSize r in omega arith), ltb-yes s)
 
     -- two columns of different tables that a line has are stated by it
-    ends-say : (a b : Place) (l : Link) → a .0 < b .0 → End l a → End l b → Says a b l
-    ends-say a b l h (inl e) (inl f) = absurd (let g : a .0 ≡ b .0 = ap (λ (z : Place). z .0) (e ∙ sym f) in omega arith)
+    ends-say : (a b : TableColumn) (l : Link) → a .0 < b .0 → End l a → End l b → Says a b l
+    ends-say a b l h (inl e) (inl f) = absurd (let g : a .0 ≡ b .0 = ap (λ (z : TableColumn). z .0) (e ∙ sym f) in omega arith)
     ends-say a b l h (inl e) (inr f) = inl (sym e, sym f)
     ends-say a b l h (inr e) (inl f) = inr (sym f, sym e)
-    ends-say a b l h (inr e) (inr f) = absurd (let g : a .0 ≡ b .0 = ap (λ (z : Place). z .0) (e ∙ sym f) in omega arith)
+    ends-say a b l h (inr e) (inr f) = absurd (let g : a .0 ≡ b .0 = ap (λ (z : TableColumn). z .0) (e ∙ sym f) in omega arith)
 
     module _ (sets : List ℕ) where
       -- a column that a set links to one of a table before is stated to be equal to it
       linked-stated : (i j : ℕ) → i < wordSize → j < wordSize → i / mostColumns < j / mostColumns → T (hasBit (getD (allClasses q sets) i 0) j)
-          → T (hasBit (getD (linesOf q .stated) i 0) j)
-      unfolding allClasses linesOf
+          → T (hasBit (getD (statedLines q .stated) i 0) j)
+      unfolding allClasses statedLines
       linked-stated i j x y h t =
           let (s, _, u) = set-elim q sets i j x 7 t in
           let w : ℕ = getD sets s 0 in
-          let (k, r, _, l, m, a, b) = class-line w (placeAt i) (placeAt j) (inside-at i x) (inside-at j y)
+          let (k, r, _, l, m, a, b) = class-line w (columnAt i) (columnAt j) (inside-at i x) (inside-at j y)
           (numbers (λ e f. T (hasBit (getD (classWords q w) e 0) f)) .1 u) in
-          numbers (λ e f. T (hasBit (getD (linesOf q .stated) e 0) f)) .0
-          (stated-word q within n (placeAt i) (placeAt j) (inside-at i x) (inside-at j y) .1
-          (stated-intro q n (placeAt i) (placeAt j) k r (states-intro (placeAt i) (placeAt j) (conditionAt q k) l m (ends-say (placeAt i) (placeAt j) l h a b))))
+          numbers (λ e f. T (hasBit (getD (statedLines q .stated) e 0) f)) .0
+          (stated-word q within n (columnAt i) (columnAt j) (inside-at i x) (inside-at j y) .1
+          (stated-intro q n (columnAt i) (columnAt j) k r (states-intro (columnAt i) (columnAt j) (conditionAt q k) l m (ends-say (columnAt i) (columnAt j) l h a b))))
         where
-          numbers : (P : ℕ → ℕ → Type 0) → P (numberOf (placeAt i)) (numberOf (placeAt j)) ↔ P i j
+          numbers : (P : ℕ → ℕ → Type 0) → P (numberOf (columnAt i)) (numberOf (columnAt j)) ↔ P i j
           numbers P = (
-            λ p. subst (P i) (number-at j y) (subst (λ (e : ℕ). P e (numberOf (placeAt j))) (number-at i x) p),
-            λ p. subst (P (numberOf (placeAt i))) (sym (number-at j y)) (subst (λ (e : ℕ). P e j) (sym (number-at i x)) p),
+            λ p. subst (P i) (number-at j y) (subst (λ (e : ℕ). P e (numberOf (columnAt j))) (number-at i x) p),
+            λ p. subst (P (numberOf (columnAt i))) (sym (number-at j y)) (subst (λ (e : ℕ). P e j) (sym (number-at i x)) p),
           )
 
-      derived-none : (i : ℕ) → i < wordSize → derivedWord (allClasses q sets) (linesOf q .stated) i ≡ 0
+      derived-none : (i : ℕ) → i < wordSize → derivedWord (allClasses q sets) (statedLines q .stated) i ≡ 0
       unfolding derivedWord
-      derived-none i h = same-bits (derivedWord (allClasses q sets) (linesOf q .stated) i) 0 (λ j. (
+      derived-none i h = same-bits (derivedWord (allClasses q sets) (statedLines q .stated) i) 0 (λ j. (
         λ t. absurd (
             let near : ℕ = bitAnd (getD (allClasses q sets) i 0) (behindWord i) in
-            let stated : ℕ = getD (linesOf q .stated) i 0 in
+            let stated : ℕ = getD (statedLines q .stated) i 0 in
             let (u, v) = and-yes (hasBit near j) (not (hasBit stated j)) (subst T (has-without near stated j) t) in
             let (c, b) = and-elim (getD (allClasses q sets) i 0) (behindWord i) j u in
             let (k, l) = behind-elim i j b in
@@ -215,12 +215,12 @@ module _ (q : Query) (within : LinksWithin q) where
         λ t. absurd (none-elim j t),
       ))
 
-      derived-to : (s : Numbered) (k : ℕ) → k ≤ wordSize → derivedTo s (allClasses q sets) (linesOf q .stated) k ≡ s
+      derived-to : (s : Numbered) (k : ℕ) → k ≤ wordSize → derivedTo s (allClasses q sets) (statedLines q .stated) k ≡ s
       unfolding derivedTo
       derived-to s zero h = refl
       derived-to s (suc k) h =
-          ap (λ (z : ℕ). columnTo (derivedTo s (allClasses q sets) (linesOf q .stated) k) k z wordSize) (derived-none k (omega arith))
-          ∙ column-none (derivedTo s (allClasses q sets) (linesOf q .stated) k) k wordSize
+          ap (λ (z : ℕ). columnTo (derivedTo s (allClasses q sets) (statedLines q .stated) k) k z wordSize) (derived-none k (omega arith))
+          ∙ column-none (derivedTo s (allClasses q sets) (statedLines q .stated) k) k wordSize
           ∙ derived-to s k (omega arith)
 
       -- no condition is derived

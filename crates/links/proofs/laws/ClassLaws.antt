@@ -23,30 +23,30 @@ use Rattle.vocabulary.specs.Steps.{bitsOf}
 use Rattle.vocabulary.specs.inner.Words.{onlyIf}
 use Rattle.vocabulary.proofs.laws.BitLaws.{has-one, bit-elim, bit-intro}
 use Rattle.vocabulary.proofs.laws.WordLaws.{or-elim, or-intro, none-elim, only-elim, only-intro, tab-at}
-use Rattle.links.specs.Links.{Place, Link, Chain, along, back, after, sideLink, linkOf, linksOf, linked}
+use Rattle.links.specs.Links.{TableColumn, Link, LinkChain, along, back, after, sideLink, linkOf, linksOf, chained}
 use Rattle.links.specs.inner.ClassWords.{columnNumber, noLink, sideNumbers, linkNumbers, isLink, groupWord, groupedWords, linkedWords, linkIn, classesTo, classWords}
 use Rattle.links.specs.inner.LinksWithin.{Inside, LinksWithin}
 use Rattle.links.specs.declared.column.ColumnLink.{ColumnLink}
 use Rattle.links.proofs.laws.ChainLaws.{chain-sym, chain-more}
-use Rattle.links.proofs.laws.FollowLaws.{linked-chain, chain-linked}
+use Rattle.links.proofs.laws.ImpliedLaws.{chained-elim, chained-intro}
 
 -- ---- columns as numbers
 
-abbrev pub numberOf : Place → ℕ
+abbrev pub numberOf : TableColumn → ℕ
 numberOf a = columnNumber (a .0) (a .1)
 
 -- a link by the numbers of its columns
 abbrev pub numbered : Link → ColumnLink
 numbered l = record { first = numberOf (l .0); second = numberOf (l .1) }
 
-pub number-is : (a : Place) → Inside a → numberOf a ≡ a .0 * mostColumns + a .1
+pub number-is : (a : TableColumn) → Inside a → numberOf a ≡ a .0 * mostColumns + a .1
 unfolding columnNumber
 number-is a h = rw (lt-ltb (a .0) 8 (h .0), lt-ltb (a .1) 8 (h .1))
 
-pub number-below : (a : Place) → Inside a → numberOf a < wordSize
+pub number-below : (a : TableColumn) → Inside a → numberOf a < wordSize
 number-below a h = let e = number-is a h in omega arith
 
-pub number-same : (a b : Place) → Inside a → Inside b → numberOf a ≡ numberOf b → a ≡ b
+pub number-same : (a b : TableColumn) → Inside a → Inside b → numberOf a ≡ numberOf b → a ≡ b
 number-same a b h k e =
     let x = number-is a h in
     let y = number-is b k in
@@ -88,30 +88,30 @@ numbers-of k l m = links (links-of k)
 
 module _ (l : Link) (L : List Link) where
   -- a column of the link, or one that a chain links to such a column
-  abbrev Near : Place → Type 0
-  Near x = ((x ≡ l .0) ⊎ (x ≡ l .1)) ⊎ (Chain L (l .0) x ⊎ Chain L (l .1) x)
+  abbrev Near : TableColumn → Type 0
+  Near x = ((x ≡ l .0) ⊎ (x ≡ l .1)) ⊎ (LinkChain L (l .0) x ⊎ LinkChain L (l .1) x)
 
-  near-first : (x : Place) → Near x → Chain (l ∷ L) (l .0) x
-  near-first x (inl (inl e)) = subst (Chain (l ∷ L) (l .0)) (sym e) (after (along (here refl)) (back (here refl)))
-  near-first x (inl (inr e)) = subst (Chain (l ∷ L) (l .0)) (sym e) (along (here refl))
+  near-first : (x : TableColumn) → Near x → LinkChain (l ∷ L) (l .0) x
+  near-first x (inl (inl e)) = subst (LinkChain (l ∷ L) (l .0)) (sym e) (after (along (here refl)) (back (here refl)))
+  near-first x (inl (inr e)) = subst (LinkChain (l ∷ L) (l .0)) (sym e) (along (here refl))
   near-first x (inr (inl c)) = chain-more (λ y w. there w) c
   near-first x (inr (inr c)) = after (along (here refl)) (chain-more (λ y w. there w) c)
 
-  near-over : (x y : Place) → Near x → Chain L x y → Near y
-  near-over x y (inl (inl e)) c = inr (inl (subst (λ (z : Place). Chain L z y) e c))
-  near-over x y (inl (inr e)) c = inr (inr (subst (λ (z : Place). Chain L z y) e c))
+  near-over : (x y : TableColumn) → Near x → LinkChain L x y → Near y
+  near-over x y (inl (inl e)) c = inr (inl (subst (λ (z : TableColumn). LinkChain L z y) e c))
+  near-over x y (inl (inr e)) c = inr (inr (subst (λ (z : TableColumn). LinkChain L z y) e c))
   near-over x y (inr (inl d)) c = inr (inl (after d c))
   near-over x y (inr (inr d)) c = inr (inr (after d c))
 
   -- a chain with one link more is one without it, or its ends are near the link
-  chain-next : {x y : Place} → Chain (l ∷ L) x y → Chain L x y ⊎ (Near x × Near y)
+  chain-next : {x y : TableColumn} → LinkChain (l ∷ L) x y → LinkChain L x y ⊎ (Near x × Near y)
   chain-next (along (here e)) = inr (inl (inl (ap (λ (z : Link). z .0) e)), inl (inr (ap (λ (z : Link). z .1) e)))
   chain-next (along (there m)) = inl (along m)
   chain-next (back (here e)) = inr (inl (inr (ap (λ (z : Link). z .1) e)), inl (inl (ap (λ (z : Link). z .0) e)))
   chain-next (back (there m)) = inl (back m)
   chain-next (after {a} {b} {c} p r) = two (chain-next p) (chain-next r)
     where
-      two : Chain L a b ⊎ (Near a × Near b) → Chain L b c ⊎ (Near b × Near c) → Chain L a c ⊎ (Near a × Near c)
+      two : LinkChain L a b ⊎ (Near a × Near b) → LinkChain L b c ⊎ (Near b × Near c) → LinkChain L a c ⊎ (Near a × Near c)
       two (inl x) (inl y) = inl (after x y)
       two (inl x) (inr (nb, nc)) = inr (near-over b a nb (chain-sym x), nc)
       two (inr (na, nb)) (inl y) = inr (na, near-over b c nb y)
@@ -133,9 +133,9 @@ getD-zeros (suc n) (suc i) = getD-zeros n i
 
 -- each column's word has the columns that a chain of these links links to it
 abbrev pub Classes : List ℕ → List Link → Type 0
-Classes words L = (a b : Place) → Inside a → Inside b → T (hasBit (getD words (numberOf a) 0) (numberOf b)) ↔ Chain L a b
+Classes words L = (a b : TableColumn) → Inside a → Inside b → T (hasBit (getD words (numberOf a) 0) (numberOf b)) ↔ LinkChain L a b
 
-no-chain : {a b : Place} → Chain [] a b → ⊥
+no-chain : {a b : TableColumn} → LinkChain [] a b → ⊥
 no-chain (along m) = elim m [ ]
 no-chain (back m) = elim m [ ]
 no-chain (after p r) = no-chain p
@@ -154,7 +154,7 @@ module _ (words : List ℕ) (l : Link) (L : List Link) (x : Inside (l .0)) (y : 
   abbrev group : ℕ
   group = groupWord words (numbered l)
 
-  group-near : (a : Place) → Inside a → T (hasBit group (numberOf a)) → Near l L a
+  group-near : (a : TableColumn) → Inside a → T (hasBit group (numberOf a)) → Near l L a
   unfolding groupWord
   group-near a i t = ⊎-elim
       (λ u. inr (⊎-elim (λ v. inl (h (l .0) a x i .0 v)) (λ v. inr (h (l .1) a y i .0 v)) (or-elim _ _ (numberOf a) u)))
@@ -167,14 +167,14 @@ module _ (words : List ℕ) (l : Link) (L : List Link) (x : Inside (l .0)) (y : 
   abbrev ends : ℕ
   ends = bitOr (2 ^ numberOf (l .0)) (2 ^ numberOf (l .1))
 
-  near-group : (a : Place) → Inside a → Near l L a → T (hasBit group (numberOf a))
+  near-group : (a : TableColumn) → Inside a → Near l L a → T (hasBit group (numberOf a))
   unfolding groupWord
   near-group a i (inl (inl e)) = or-intro classes ends (numberOf a) (inr (or-intro (2 ^ numberOf (l .0)) (2 ^ numberOf (l .1)) (numberOf a) (inl (bit-one _ _ (ap numberOf e)))))
   near-group a i (inl (inr e)) = or-intro classes ends (numberOf a) (inr (or-intro (2 ^ numberOf (l .0)) (2 ^ numberOf (l .1)) (numberOf a) (inr (bit-one _ _ (ap numberOf e)))))
   near-group a i (inr (inl c)) = or-intro classes ends (numberOf a) (inl (or-intro (getD words (numberOf (l .0)) 0) (getD words (numberOf (l .1)) 0) (numberOf a) (inl (h (l .0) a x i .1 c))))
   near-group a i (inr (inr c)) = or-intro classes ends (numberOf a) (inl (or-intro (getD words (numberOf (l .0)) 0) (getD words (numberOf (l .1)) 0) (numberOf a) (inr (h (l .1) a y i .1 c))))
 
-  words-at : (a : Place) → Inside a
+  words-at : (a : TableColumn) → Inside a
       → getD (linkedWords words (numbered l)) (numberOf a) 0 ≡ bitOr (getD words (numberOf a) 0) (onlyIf (hasBit group (numberOf a)) group)
   unfolding linkedWords isLink groupedWords
   words-at a i = rw (lt-ltb (numberOf (l .0)) 64 (number-below (l .0) x), lt-ltb (numberOf (l .1)) 64 (number-below (l .1) y))
@@ -263,13 +263,13 @@ module _ (q : Query) (within : LinksWithin q) (w : ℕ) where
               more l i l′ (there m) = links-before n l′ m
 
 -- the words of a set of conditions that there are
-pub class-linked : (q : Query) → LinksWithin q → (C : List ℕ) → ((k : ℕ) → k isIn C → k < length (q .conditions)) → (a b : Place) → Inside a → Inside b
-    → T (hasBit (getD (classWords q (bitsOf C)) (numberOf a) 0) (numberOf b)) ↔ T (linked q C a b)
+pub class-chained : (q : Query) → LinksWithin q → (C : List ℕ) → ((k : ℕ) → k isIn C → k < length (q .conditions)) → (a b : TableColumn) → Inside a → Inside b
+    → T (hasBit (getD (classWords q (bitsOf C)) (numberOf a) 0) (numberOf b)) ↔ T (chained q C a b)
 unfolding classWords linksOf
-class-linked q within C few a b i j =
+class-chained q within C few a b i j =
     let h = classes-to q within (bitsOf C) (length (q .conditions)) a b i j in (
-      λ t. chain-linked q C a b (chain-more to (h .0 t)),
-      λ t. h .1 (chain-more from (linked-chain q C a b t)),
+      λ t. chained-intro q C a b (chain-more to (h .0 t)),
+      λ t. h .1 (chain-more from (chained-elim q C a b t)),
     )
   where
     n : ℕ

@@ -18,12 +18,12 @@ use Rattle.vocabulary.specs.Steps.{bitsOf}
 use Rattle.vocabulary.specs.inner.Words.{onlyIf}
 use Rattle.vocabulary.proofs.laws.BitLaws.{bit-elim, bit-intro, word-is}
 use Rattle.vocabulary.proofs.laws.WordLaws.{or-elim, or-intro, none-elim, only-elim, only-intro}
-use Rattle.links.specs.Links.{Link, linkOf, linked, statedBefore, follows, closeSet}
-use Rattle.links.specs.inner.ClassWords.{linkNumbers, isLink, inGroup, classWords, linesOf, followingTo, closedWord}
+use Rattle.links.specs.Links.{Link, linkOf, chained, statedBefore, implied, closeSet}
+use Rattle.links.specs.inner.ClassWords.{linkNumbers, isLink, inGroup, classWords, statedLines, followingTo, closedWord}
 use Rattle.links.specs.inner.LinksWithin.{Inside, LinksWithin}
 use Rattle.links.specs.declared.column.ColumnLink.{ColumnLink}
-use Rattle.links.proofs.laws.ClassLaws.{numberOf, numbered, number-below, numbers-of, class-linked, one-bit, bit-one}
-use Rattle.links.proofs.laws.CloseLaws.{close-elim, close-intro, follows-numbered}
+use Rattle.links.proofs.laws.ClassLaws.{numberOf, numbered, number-below, numbers-of, class-chained, one-bit, bit-one}
+use Rattle.links.proofs.laws.CloseLaws.{close-elim, close-intro, implied-numbered}
 use Rattle.links.proofs.laws.LineLaws.{First, first-word}
 use borrow.Author.Tests.{lt-ltb}
 
@@ -67,41 +67,41 @@ module _ (q : Query) (within : LinksWithin q) (C : List ℕ) (few : (k : ℕ) �
   its : (k : ℕ) (l : Link) → linkOf (conditionAt q k) ≡ l ∷ [] → l isIn linkOf (conditionAt q k)
   its k l e = subst (λ (z : List Link). l isIn z) (sym e) (here refl)
 
-  follow-follows : (k : ℕ) → First q k → T (inGroup classes (linkNumbers (conditionAt q k))) → T (follows q C k)
-  unfolding follows
-  follow-follows k (l, e, n) t =
+  follow-implied : (k : ℕ) → First q k → T (inGroup classes (linkNumbers (conditionAt q k))) → T (implied q C k)
+  unfolding implied
+  follow-implied k (l, e, n) t =
       let m = its k l e in
       let (x, y) = within k l m in
-      any-intro (λ (l : Link). linked q C (l .0) (l .1) && not (statedBefore q k (l .0) (l .1))) m
-      (yes-and (linked q C (l .0) (l .1)) (not (statedBefore q k (l .0) (l .1)))
-      (class-linked q within C few (l .0) (l .1) x y .0 (group-elim classes l (subst (λ (z : ColumnLink). T (inGroup classes z)) (numbers-of (conditionAt q k) l m .1) t)))
+      any-intro (λ (l : Link). chained q C (l .0) (l .1) && not (statedBefore q k (l .0) (l .1))) m
+      (yes-and (chained q C (l .0) (l .1)) (not (statedBefore q k (l .0) (l .1)))
+      (class-chained q within C few (l .0) (l .1) x y .0 (group-elim classes l (subst (λ (z : ColumnLink). T (inGroup classes z)) (numbers-of (conditionAt q k) l m .1) t)))
       (not-T (statedBefore q k (l .0) (l .1)) n))
 
-  follows-follow : (k : ℕ) → T (follows q C k) → First q k × T (inGroup classes (linkNumbers (conditionAt q k)))
-  unfolding follows
-  follows-follow k t =
-      let (l, m, u) = any-elim (λ (l : Link). linked q C (l .0) (l .1) && not (statedBefore q k (l .0) (l .1))) (linkOf (conditionAt q k)) t in
-      let (v, w) = and-yes (linked q C (l .0) (l .1)) (not (statedBefore q k (l .0) (l .1))) u in
+  implied-follow : (k : ℕ) → T (implied q C k) → First q k × T (inGroup classes (linkNumbers (conditionAt q k)))
+  unfolding implied
+  implied-follow k t =
+      let (l, m, u) = any-elim (λ (l : Link). chained q C (l .0) (l .1) && not (statedBefore q k (l .0) (l .1))) (linkOf (conditionAt q k)) t in
+      let (v, w) = and-yes (chained q C (l .0) (l .1)) (not (statedBefore q k (l .0) (l .1))) u in
       let (x, y) = within k l m in (
         (l, numbers-of (conditionAt q k) l m .0, T-not (statedBefore q k (l .0) (l .1)) w),
         subst (λ (z : ColumnLink). T (inGroup classes z)) (sym (numbers-of (conditionAt q k) l m .1))
-            (group-intro classes l x y (class-linked q within C few (l .0) (l .1) x y .1 v)),
+            (group-intro classes l x y (class-chained q within C few (l .0) (l .1) x y .1 v)),
       )
 
   -- the code's word of a set with what follows from it is that of the definition
   pub closed-word : closedWord q (bitsOf C) ≡ bitsOf (closeSet q C)
-  unfolding closedWord linesOf conditionNumbers
+  unfolding closedWord statedLines conditionNumbers
   closed-word = word-is (closedWord q (bitsOf C)) (closeSet q C) (λ k. (
     λ t. close-intro q C number k (⊎-elim (λ u. inl (bit-elim C k u))
-        (λ u. let (a, b) = following-elim q (linesOf q .firsts) classes (length (q .conditions)) k u in
-        let (c, d) = and-yes (hasBit (linesOf q .firsts) k) (inGroup classes (linkNumbers (conditionAt q k))) b in
-        inr (follow-follows k (first-word q within (length (q .conditions)) k .0 c .1) d))
-        (or-elim (bitsOf C) (followingTo q (linesOf q .firsts) classes (length (q .conditions))) k t)),
-    λ m. or-intro (bitsOf C) (followingTo q (linesOf q .firsts) classes (length (q .conditions))) k (⊎-elim (λ u. inl (bit-intro u))
-        (λ u. let (f, g) = follows-follow k u in
-        let h : k < length (q .conditions) = (let r = range-elim 0 (length (q .conditions)) (follows-numbered q C k u) in omega arith) in
-        inr (following-intro q (linesOf q .firsts) classes (length (q .conditions)) k h
-        (yes-and (hasBit (linesOf q .firsts) k) (inGroup classes (linkNumbers (conditionAt q k)))
+        (λ u. let (a, b) = following-elim q (statedLines q .firsts) classes (length (q .conditions)) k u in
+        let (c, d) = and-yes (hasBit (statedLines q .firsts) k) (inGroup classes (linkNumbers (conditionAt q k))) b in
+        inr (follow-implied k (first-word q within (length (q .conditions)) k .0 c .1) d))
+        (or-elim (bitsOf C) (followingTo q (statedLines q .firsts) classes (length (q .conditions))) k t)),
+    λ m. or-intro (bitsOf C) (followingTo q (statedLines q .firsts) classes (length (q .conditions))) k (⊎-elim (λ u. inl (bit-intro u))
+        (λ u. let (f, g) = implied-follow k u in
+        let h : k < length (q .conditions) = (let r = range-elim 0 (length (q .conditions)) (implied-numbered q C k u) in omega arith) in
+        inr (following-intro q (statedLines q .firsts) classes (length (q .conditions)) k h
+        (yes-and (hasBit (statedLines q .firsts) k) (inGroup classes (linkNumbers (conditionAt q k)))
         (first-word q within (length (q .conditions)) k .1 (h, f)) g)))
         (close-elim q C k m)),
   ))

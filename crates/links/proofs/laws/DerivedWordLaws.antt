@@ -23,15 +23,15 @@ use Rattle.vocabulary.specs.Bits.{wordSize, hasBit}
 use Rattle.vocabulary.specs.Steps.{bitsOf}
 use Rattle.vocabulary.proofs.laws.BitLaws.{has-and, has-without, has-bits}
 use Rattle.vocabulary.proofs.laws.WordLaws.{or-elim, or-intro}
-use Rattle.links.specs.Links.{Place, linked, statedBefore, derivedLinks, equalOf}
-use Rattle.links.specs.inner.ClassWords.{classWords, classesOfFirst, allClasses, linesOf, behindWord, derivedWord, equalAt, numberedMore, columnTo, derivedTo, derivedNumbered}
+use Rattle.links.specs.Links.{TableColumn, chained, statedBefore, derivedLinks, equalOf}
+use Rattle.links.specs.inner.ClassWords.{classWords, classesOfFirst, allClasses, statedLines, behindWord, derivedWord, equalAt, numberedMore, columnTo, derivedTo, derivedNumbered}
 use Rattle.links.specs.inner.LinksWithin.{Inside, LinksExist, ColumnsFew, LinksWithin}
 use Rattle.links.specs.declared.derived.Numbered.{Numbered}
-use Rattle.links.proofs.laws.ClassLaws.{numberOf, number-is, number-below, class-linked}
+use Rattle.links.proofs.laws.ClassLaws.{numberOf, number-is, number-below, class-chained}
 use Rattle.links.proofs.laws.ClassSteps.{either-at}
-use Rattle.links.proofs.laws.CloseLaws.{nothing-linked}
+use Rattle.links.proofs.laws.CloseLaws.{nothing-chained}
 use Rattle.links.proofs.laws.LineLaws.{stated-word}
-use Rattle.links.proofs.laws.PlaceLaws.{flat-same, map-flat, keep-same-in, placeAt, gives, derived-numbers}
+use Rattle.links.proofs.laws.ColumnLaws.{flat-same, map-flat, keep-same-in, columnAt, gives, derived-numbers}
 
 -- ---- conditions put behind others
 
@@ -125,11 +125,11 @@ all-over s (c ∷ cs) h k = by-cases (decLt (s .count) mostConditions)
 
 -- ---- the columns of a number
 
-pub inside-at : (i : ℕ) → i < wordSize → Inside (placeAt i)
+pub inside-at : (i : ℕ) → i < wordSize → Inside (columnAt i)
 inside-at i h = (omega arith, omega arith)
 
-pub number-at : (i : ℕ) → i < wordSize → numberOf (placeAt i) ≡ i
-number-at i h = number-is (placeAt i) (inside-at i h) ∙ omega arith
+pub number-at : (i : ℕ) → i < wordSize → numberOf (columnAt i) ≡ i
+number-at i h = number-is (columnAt i) (inside-at i h) ∙ omega arith
 
 -- columns that the words of the sets 0 to n have together are together in the words of one of these sets
 pub set-elim : (q : Query) (sets : List ℕ) (i j : ℕ) → i < wordSize → (n : ℕ) → T (hasBit (getD (classesOfFirst q sets n) i 0) j)
@@ -157,37 +157,37 @@ module _ (q : Query) (exist : LinksExist q) (few : ColumnsFew q) (S : List (List
   fair-at t k m = by-cases (decLt t (length S)) (λ h. fair (getD S t []) (getD-isIn S t [] h) k m)
       (λ h. elim (subst (λ (z : List ℕ). k isIn z) (List·getD-eq-default S [] (omega arith)) m) [ ])
 
-  module _ (a b : Place) (x : Inside a) (y : Inside b) where
-    one-linked : (t : ℕ) → t < mostTables
-        → T (hasBit (getD (classWords q (getD sets t 0)) (numberOf a) 0) (numberOf b)) ↔ T (linked q (getD S t []) a b)
-    one-linked t h = subst (λ (w : ℕ). T (hasBit (getD (classWords q w) (numberOf a) 0) (numberOf b)) ↔ T (linked q (getD S t []) a b)) (sym (words t h))
-        (class-linked q within (getD S t []) (fair-at t) a b x y)
+  module _ (a b : TableColumn) (x : Inside a) (y : Inside b) where
+    one-chained : (t : ℕ) → t < mostTables
+        → T (hasBit (getD (classWords q (getD sets t 0)) (numberOf a) 0) (numberOf b)) ↔ T (chained q (getD S t []) a b)
+    one-chained t h = subst (λ (w : ℕ). T (hasBit (getD (classWords q w) (numberOf a) 0) (numberOf b)) ↔ T (chained q (getD S t []) a b)) (sym (words t h))
+        (class-chained q within (getD S t []) (fair-at t) a b x y)
 
     first-elim : (n : ℕ) → n < mostTables → T (hasBit (getD (classesOfFirst q sets n) (numberOf a) 0) (numberOf b))
-        → (t : ℕ) × (t ≤ n) × T (linked q (getD S t []) a b)
-    first-elim n h t = let (i, l, u) = set-elim q sets (numberOf a) (numberOf b) (number-below a x) n t in (i, l, one-linked i (omega arith) .0 u)
+        → (t : ℕ) × (t ≤ n) × T (chained q (getD S t []) a b)
+    first-elim n h t = let (i, l, u) = set-elim q sets (numberOf a) (numberOf b) (number-below a x) n t in (i, l, one-chained i (omega arith) .0 u)
 
-    first-intro : (n : ℕ) → n < mostTables → (t : ℕ) → t ≤ n → T (linked q (getD S t []) a b)
+    first-intro : (n : ℕ) → n < mostTables → (t : ℕ) → t ≤ n → T (chained q (getD S t []) a b)
         → T (hasBit (getD (classesOfFirst q sets n) (numberOf a) 0) (numberOf b))
     unfolding classesOfFirst
-    first-intro zero h t l u = one-linked 0 h .1 (subst (λ (z : ℕ). T (linked q (getD S z []) a b)) (let e : t ≡ 0 = omega arith in e) u)
+    first-intro zero h t l u = one-chained 0 h .1 (subst (λ (z : ℕ). T (chained q (getD S z []) a b)) (let e : t ≡ 0 = omega arith in e) u)
     first-intro (suc n) h t l u = subst (λ (w : ℕ). T (hasBit w (numberOf b))) (sym (either-at (classesOfFirst q sets n) (classWords q (getD sets (suc n) 0)) (numberOf a) (number-below a x)))
         (or-intro (getD (classesOfFirst q sets n) (numberOf a) 0) (getD (classWords q (getD sets (suc n) 0)) (numberOf a) 0) (numberOf b)
         (by-cases (decLt t (suc n)) (λ k. inl (first-intro n (omega arith) t (omega arith) u))
-        (λ k. let e : t ≡ suc n = omega arith in inr (one-linked (suc n) h .1 (subst (λ (z : ℕ). T (linked q (getD S z []) a b)) e u)))))
+        (λ k. let e : t ≡ suc n = omega arith in inr (one-chained (suc n) h .1 (subst (λ (z : ℕ). T (chained q (getD S z []) a b)) e u)))))
 
-    all-linked : hasBit (getD (allClasses q sets) (numberOf a) 0) (numberOf b) ≡ any (λ C. linked q C a b) S
+    all-chained : hasBit (getD (allClasses q sets) (numberOf a) 0) (numberOf b) ≡ any (λ C. chained q C a b) S
     unfolding allClasses
-    all-linked = same-test (hasBit (getD (classesOfFirst q sets 7) (numberOf a) 0) (numberOf b)) (any (λ C. linked q C a b) S)
+    all-chained = same-test (hasBit (getD (classesOfFirst q sets 7) (numberOf a) 0) (numberOf b)) (any (λ C. chained q C a b) S)
         (λ t. let (i, l, u) = first-elim 7 (omega arith) t in by-cases (decLt i (length S))
-        (λ h. any-intro (λ C. linked q C a b) (getD-isIn S i [] h) u)
-        (λ h. absurd (nothing-linked q a b (subst (λ (C : List ℕ). T (linked q C a b)) (List·getD-eq-default S [] (omega arith)) u))))
-        (λ t. let (C, m, u) = any-elim (λ C. linked q C a b) S t in
+        (λ h. any-intro (λ C. chained q C a b) (getD-isIn S i [] h) u)
+        (λ h. absurd (nothing-chained q a b (subst (λ (C : List ℕ). T (chained q C a b)) (List·getD-eq-default S [] (omega arith)) u))))
+        (λ t. let (C, m, u) = any-elim (λ C. chained q C a b) S t in
         let (i, h, e) = isIn-at [] m in
-        first-intro 7 (omega arith) i (omega arith) (subst (λ (z : List ℕ). T (linked q z a b)) (sym e) u))
+        first-intro 7 (omega arith) i (omega arith) (subst (λ (z : List ℕ). T (chained q z a b)) (sym e) u))
 
-    stated-same : hasBit (getD (linesOf q .stated) (numberOf a) 0) (numberOf b) ≡ statedBefore q (length (q .conditions)) a b
-    unfolding linesOf
+    stated-same : hasBit (getD (statedLines q .stated) (numberOf a) 0) (numberOf b) ≡ statedBefore q (length (q .conditions)) a b
+    unfolding statedLines
     stated-same = same-test _ (statedBefore q (length (q .conditions)) a b) (stated-word q within (length (q .conditions)) a b x y .0)
         (stated-word q within (length (q .conditions)) a b x y .1)
 
@@ -201,17 +201,17 @@ module _ (q : Query) (exist : LinksExist q) (few : ColumnsFew q) (S : List (List
 
   -- column i gives a derived condition with just these columns
   word-gives : (i j : ℕ) → i < wordSize → j < wordSize
-      → hasBit (derivedWord (allClasses q sets) (linesOf q .stated) i) j ≡ gives q few exist S (placeAt i) (placeAt j)
+      → hasBit (derivedWord (allClasses q sets) (statedLines q .stated) i) j ≡ gives q few exist S (columnAt i) (columnAt j)
   unfolding derivedWord
   word-gives i j h k =
-      has-without (bitAnd (getD (allClasses q sets) i 0) (behindWord i)) (getD (linesOf q .stated) i 0) j
+      has-without (bitAnd (getD (allClasses q sets) i 0) (behindWord i)) (getD (statedLines q .stated) i 0) j
       ∙ ap₂ (λ c s. c && not s)
       (has-and (getD (allClasses q sets) i 0) (behindWord i) j
-      ∙ ap₂ _&&_ (numbers (λ u v. hasBit (getD (allClasses q sets) u 0) v) ∙ all-linked (placeAt i) (placeAt j) (inside-at i h) (inside-at j k)) (behind-at i j k))
-      (numbers (λ u v. hasBit (getD (linesOf q .stated) u 0) v) ∙ stated-same (placeAt i) (placeAt j) (inside-at i h) (inside-at j k))
-      ∙ turned (any (λ C. linked q C (placeAt i) (placeAt j)) S) (ltb (i / mostColumns) (j / mostColumns)) (not (statedBefore q (length (q .conditions)) (placeAt i) (placeAt j)))
+      ∙ ap₂ _&&_ (numbers (λ u v. hasBit (getD (allClasses q sets) u 0) v) ∙ all-chained (columnAt i) (columnAt j) (inside-at i h) (inside-at j k)) (behind-at i j k))
+      (numbers (λ u v. hasBit (getD (statedLines q .stated) u 0) v) ∙ stated-same (columnAt i) (columnAt j) (inside-at i h) (inside-at j k))
+      ∙ turned (any (λ C. chained q C (columnAt i) (columnAt j)) S) (ltb (i / mostColumns) (j / mostColumns)) (not (statedBefore q (length (q .conditions)) (columnAt i) (columnAt j)))
     where
-      numbers : (f : ℕ → ℕ → Bool) → f i j ≡ f (numberOf (placeAt i)) (numberOf (placeAt j))
+      numbers : (f : ℕ → ℕ → Bool) → f i j ≡ f (numberOf (columnAt i)) (numberOf (columnAt j))
       numbers f = ap₂ f (sym (number-at i h)) (sym (number-at j k))
 
       turned : (l b s : Bool) → ((l && b) && s) ≡ (b && (l && s))
@@ -224,14 +224,14 @@ module _ (q : Query) (exist : LinksExist q) (few : ColumnsFew q) (S : List (List
   pub derived-numbered : (s : Numbered) → derivedNumbered q sets s ≡ numberedAll s (map equalOf (derivedLinks q S))
   unfolding derivedNumbered equalAt equalOf
   derived-numbered s =
-      derived-all s (allClasses q sets) (linesOf q .stated) wordSize
+      derived-all s (allClasses q sets) (statedLines q .stated) wordSize
       ∙ ap (numberedAll s) (
-      flat-same (λ i. map (equalAt i) (keep (hasBit (derivedWord (allClasses q sets) (linesOf q .stated) i)) (range 0 wordSize)))
-      (λ i. map equalOf (map (λ j. (placeAt i, placeAt j)) (keep (λ j. gives q few exist S (placeAt i) (placeAt j)) (range 0 wordSize)))) (range 0 wordSize)
+      flat-same (λ i. map (equalAt i) (keep (hasBit (derivedWord (allClasses q sets) (statedLines q .stated) i)) (range 0 wordSize)))
+      (λ i. map equalOf (map (λ j. (columnAt i, columnAt j)) (keep (λ j. gives q few exist S (columnAt i) (columnAt j)) (range 0 wordSize)))) (range 0 wordSize)
       (λ i m. let h : i < wordSize = (let r = range-elim 0 wordSize m in omega arith) in
-      ap (map (equalAt i)) (keep-same-in (hasBit (derivedWord (allClasses q sets) (linesOf q .stated) i)) (λ j. gives q few exist S (placeAt i) (placeAt j)) (range 0 wordSize)
+      ap (map (equalAt i)) (keep-same-in (hasBit (derivedWord (allClasses q sets) (statedLines q .stated) i)) (λ j. gives q few exist S (columnAt i) (columnAt j)) (range 0 wordSize)
       (λ j n. word-gives i j h (let r = range-elim 0 wordSize n in omega arith)))
-      ∙ sym (map-map equalOf (λ j. (placeAt i, placeAt j)) (keep (λ j. gives q few exist S (placeAt i) (placeAt j)) (range 0 wordSize))))
-      ∙ sym (map-flat equalOf (λ i. map (λ j. (placeAt i, placeAt j)) (keep (λ j. gives q few exist S (placeAt i) (placeAt j)) (range 0 wordSize))) (range 0 wordSize))
+      ∙ sym (map-map equalOf (λ j. (columnAt i, columnAt j)) (keep (λ j. gives q few exist S (columnAt i) (columnAt j)) (range 0 wordSize))))
+      ∙ sym (map-flat equalOf (λ i. map (λ j. (columnAt i, columnAt j)) (keep (λ j. gives q few exist S (columnAt i) (columnAt j)) (range 0 wordSize))) (range 0 wordSize))
       ∙ ap (map equalOf) (sym (derived-numbers q few exist S))
       )

@@ -20,49 +20,49 @@ use Rattle.vocabulary.specs.Report.{Query, conditionAt}
 use Rattle.vocabulary.specs.Bits.{wordSize, hasBit}
 use Rattle.vocabulary.specs.inner.Words.{onlyIf}
 use Rattle.vocabulary.proofs.laws.WordLaws.{or-elim, or-intro, none-elim, only-elim, only-intro}
-use Rattle.links.specs.Links.{Place, Link, samePlace, linkOf, states, statedBefore}
+use Rattle.links.specs.Links.{TableColumn, Link, sameColumn, linkOf, states, statedBefore}
 use Rattle.links.specs.inner.ClassWords.{noLink, linkNumbers, isLink, marked, lineTold, linesTo}
 use Rattle.links.specs.inner.LinksWithin.{Inside, LinksWithin}
 use Rattle.links.specs.declared.lines.Lines.{Lines}
 use Rattle.links.specs.declared.column.ColumnLink.{ColumnLink}
-use Rattle.links.proofs.laws.ChainLaws.{same-place, place-same}
+use Rattle.links.proofs.laws.ChainLaws.{same-column, column-same}
 use Rattle.links.proofs.laws.ClassLaws.{numberOf, numbered, number-below, number-same, Links, one, none, links-of, getD-zeros, one-bit, bit-one}
 
 -- ---- what a line states
 
 -- the link says that two columns are equal, the one way round or the other
-abbrev pub Says : Place → Place → Link → Type 0
+abbrev pub Says : TableColumn → TableColumn → Link → Type 0
 Says a b l = ((l .0 ≡ a) × (l .1 ≡ b)) ⊎ ((l .0 ≡ b) × (l .1 ≡ a))
 
-pub states-elim : (a b : Place) (k : Condition) → T (states a b k) → (l : Link) × l isIn linkOf k × Says a b l
+pub states-elim : (a b : TableColumn) (k : Condition) → T (states a b k) → (l : Link) × l isIn linkOf k × Says a b l
 unfolding states
 states-elim a b k t =
-    let (l, m, h) = any-elim (λ (l : Link). samePlace (l .0) a && samePlace (l .1) b || samePlace (l .0) b && samePlace (l .1) a) (linkOf k) t in (
+    let (l, m, h) = any-elim (λ (l : Link). sameColumn (l .0) a && sameColumn (l .1) b || sameColumn (l .0) b && sameColumn (l .1) a) (linkOf k) t in (
       l,
       m,
-      ⊎-elim (λ x. let (u, v) = and-yes (samePlace (l .0) a) (samePlace (l .1) b) x in inl (same-place (l .0) a u, same-place (l .1) b v))
-          (λ x. let (u, v) = and-yes (samePlace (l .0) b) (samePlace (l .1) a) x in inr (same-place (l .0) b u, same-place (l .1) a v))
-          (or-yes (samePlace (l .0) a && samePlace (l .1) b) (samePlace (l .0) b && samePlace (l .1) a) h),
+      ⊎-elim (λ x. let (u, v) = and-yes (sameColumn (l .0) a) (sameColumn (l .1) b) x in inl (same-column (l .0) a u, same-column (l .1) b v))
+          (λ x. let (u, v) = and-yes (sameColumn (l .0) b) (sameColumn (l .1) a) x in inr (same-column (l .0) b u, same-column (l .1) a v))
+          (or-yes (sameColumn (l .0) a && sameColumn (l .1) b) (sameColumn (l .0) b && sameColumn (l .1) a) h),
     )
 
-pub states-intro : (a b : Place) (k : Condition) (l : Link) → l isIn linkOf k → Says a b l → T (states a b k)
+pub states-intro : (a b : TableColumn) (k : Condition) (l : Link) → l isIn linkOf k → Says a b l → T (states a b k)
 unfolding states
-states-intro a b k l m s = any-intro (λ (l : Link). samePlace (l .0) a && samePlace (l .1) b || samePlace (l .0) b && samePlace (l .1) a) m (said s)
+states-intro a b k l m s = any-intro (λ (l : Link). sameColumn (l .0) a && sameColumn (l .1) b || sameColumn (l .0) b && sameColumn (l .1) a) m (said s)
   where
-    said : Says a b l → T (samePlace (l .0) a && samePlace (l .1) b || samePlace (l .0) b && samePlace (l .1) a)
-    said (inl (e, f)) = or-left (samePlace (l .0) a && samePlace (l .1) b) (samePlace (l .0) b && samePlace (l .1) a)
-        (yes-and (samePlace (l .0) a) (samePlace (l .1) b) (place-same (l .0) a e) (place-same (l .1) b f))
-    said (inr (e, f)) = or-right (samePlace (l .0) a && samePlace (l .1) b) (samePlace (l .0) b && samePlace (l .1) a)
-        (yes-and (samePlace (l .0) b) (samePlace (l .1) a) (place-same (l .0) b e) (place-same (l .1) a f))
+    said : Says a b l → T (sameColumn (l .0) a && sameColumn (l .1) b || sameColumn (l .0) b && sameColumn (l .1) a)
+    said (inl (e, f)) = or-left (sameColumn (l .0) a && sameColumn (l .1) b) (sameColumn (l .0) b && sameColumn (l .1) a)
+        (yes-and (sameColumn (l .0) a) (sameColumn (l .1) b) (column-same (l .0) a e) (column-same (l .1) b f))
+    said (inr (e, f)) = or-right (sameColumn (l .0) a && sameColumn (l .1) b) (sameColumn (l .0) b && sameColumn (l .1) a)
+        (yes-and (sameColumn (l .0) b) (sameColumn (l .1) a) (column-same (l .0) b e) (column-same (l .1) a f))
 
 module _ (q : Query) where
-  pub stated-elim : (n : ℕ) (a b : Place) → T (statedBefore q n a b) → (k : ℕ) × (k < n) × T (states a b (conditionAt q k))
+  pub stated-elim : (n : ℕ) (a b : TableColumn) → T (statedBefore q n a b) → (k : ℕ) × (k < n) × T (states a b (conditionAt q k))
   unfolding statedBefore
   stated-elim n a b t =
       let (k, m, h) = any-elim (λ (i : ℕ). states a b (conditionAt q i)) (range 0 n) t in
       (k, (let r = range-elim 0 n m in omega arith), h)
 
-  pub stated-intro : (n : ℕ) (a b : Place) (k : ℕ) → k < n → T (states a b (conditionAt q k)) → T (statedBefore q n a b)
+  pub stated-intro : (n : ℕ) (a b : TableColumn) (k : ℕ) → k < n → T (states a b (conditionAt q k)) → T (statedBefore q n a b)
   unfolding statedBefore
   stated-intro n a b k l h = any-intro (λ (i : ℕ). states a b (conditionAt q i)) (range-intro 0 n k (omega arith) (omega arith)) h
 
@@ -98,7 +98,7 @@ module _ (q : Query) (within : LinksWithin q) where
   -- what the words say of the first n lines
   record Told (n : ℕ) (s : Lines) : Type 0 where
     pub room : length (s .stated) ≡ wordSize
-    pub stated : (a b : Place) → Inside a → Inside b → T (hasBit (getD (s .stated) (numberOf a) 0) (numberOf b)) ↔ T (statedBefore q n a b)
+    pub stated : (a b : TableColumn) → Inside a → Inside b → T (hasBit (getD (s .stated) (numberOf a) 0) (numberOf b)) ↔ T (statedBefore q n a b)
     pub firsts : (k : ℕ) → T (hasBit (s .firsts) k) ↔ ((k < n) × First q k)
 
   -- a line that links nothing
@@ -117,7 +117,7 @@ module _ (q : Query) (within : LinksWithin q) where
     );
   }
     where
-      silent : (a b : Place) → T (states a b (conditionAt q n)) → ⊥
+      silent : (a b : TableColumn) → T (states a b (conditionAt q n)) → ⊥
       silent a b t = let (l, m, s) = states-elim a b (conditionAt q n) t in elim (subst (λ (z : List Link). l isIn z) e m) [ ]
 
       clash : {k : ℕ} → First q k → k ≡ n → ⊥
@@ -161,7 +161,7 @@ module _ (q : Query) (within : LinksWithin q) where
     unfolding lineTold isLink
     told = rw (lt-ltb (numberOf (l .0)) 64 (number-below (l .0) x), lt-ltb (numberOf (l .1)) 64 (number-below (l .1) y))
 
-    to-said : (a b : Place) → Inside a → Inside b → T (hasBit (getD (marked once (numberOf (l .1)) (numberOf (l .0))) (numberOf a) 0) (numberOf b))
+    to-said : (a b : TableColumn) → Inside a → Inside b → T (hasBit (getD (marked once (numberOf (l .1)) (numberOf (l .0))) (numberOf a) 0) (numberOf b))
         → T (statedBefore q (suc n) a b)
     to-said a b i j t = ⊎-elim
         (λ u. ⊎-elim
@@ -173,7 +173,7 @@ module _ (q : Query) (within : LinksWithin q) where
         (states-intro a b (conditionAt q n) l its (inr (sym (number-same b (l .0) j x g), sym (number-same a (l .1) i y f)))))
         (marked-elim once (numberOf (l .1)) (numberOf (l .0)) second-room (numberOf a) (numberOf b) t)
 
-    from-said : (a b : Place) → Inside a → Inside b → T (statedBefore q (suc n) a b)
+    from-said : (a b : TableColumn) → Inside a → Inside b → T (statedBefore q (suc n) a b)
         → T (hasBit (getD (marked once (numberOf (l .1)) (numberOf (l .0))) (numberOf a) 0) (numberOf b))
     from-said a b i j t = let (k, z, w) = stated-elim q (suc n) a b t in marked-intro once (numberOf (l .1)) (numberOf (l .0)) second-room (numberOf a) (numberOf b)
         (by-cases (ℕ-discrete k n) (λ f. last (subst (λ (c : ℕ). T (states a b (conditionAt q c))) f w))
@@ -238,7 +238,7 @@ module _ (q : Query) (within : LinksWithin q) where
       links h (one l e f) = subst (Told (suc n)) (sym (ap (λ (z : ColumnLink). lineTold (linesTo q n) z n) f)) (told-one n (linesTo q n) h l e)
 
   -- each column's word has the columns that a line states to be equal to it
-  pub stated-word : (n : ℕ) (a b : Place) → Inside a → Inside b → T (hasBit (getD (linesTo q n .stated) (numberOf a) 0) (numberOf b)) ↔ T (statedBefore q n a b)
+  pub stated-word : (n : ℕ) (a b : TableColumn) → Inside a → Inside b → T (hasBit (getD (linesTo q n .stated) (numberOf a) 0) (numberOf b)) ↔ T (statedBefore q n a b)
   stated-word n = lines-told n .stated
 
   -- the first lines

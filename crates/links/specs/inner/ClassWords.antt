@@ -104,8 +104,8 @@ unfoldable pub linesTo : Query → ℕ → Lines
 linesTo q zero = record { stated = replicate wordSize 0; firsts = 0 }
 linesTo q (suc n) = lineTold (linesTo q n) (linkNumbers (conditionAt q n)) n
 
-unfoldable pub linesOf : Query → Lines
-linesOf q = linesTo q (length (q .conditions))
+unfoldable pub statedLines : Query → Lines
+statedLines q = linesTo q (length (q .conditions))
 
 -- ---- lines that share no column
 
@@ -139,7 +139,7 @@ followingTo q firsts classes (suc n) =
     bitOr (followingTo q firsts classes n) (onlyIf (hasBit firsts n && inGroup classes (linkNumbers (conditionAt q n))) (2 ^ n))
 
 unfoldable pub closedWord : Query → ℕ → ℕ
-closedWord q w = bitOr w (followingTo q (linesOf q .firsts) (classWords q w) (length (q .conditions)))
+closedWord q w = bitOr w (followingTo q (statedLines q .firsts) (classWords q w) (length (q .conditions)))
 
 unfoldable pub closedWords : Query → List ℕ → List ℕ
 closedWords q sets = map (λ t. closedWord q (getD sets t 0)) (range 0 mostTables)
@@ -183,7 +183,7 @@ derivedTo s classes stated (suc n) = columnTo (derivedTo s classes stated n) n (
 
 -- with all
 unfoldable pub derivedNumbered : Query → List ℕ → Numbered → Numbered
-derivedNumbered q sets s = derivedTo s (allClasses q sets) (linesOf q .stated) wordSize
+derivedNumbered q sets s = derivedTo s (allClasses q sets) (statedLines q .stated) wordSize
 
 -- the stored query with these conditions
 unfoldable pub withNumbered : StoredQuery → Numbered → StoredQuery

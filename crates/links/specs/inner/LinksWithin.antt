@@ -4,10 +4,10 @@ use lib.ListN.{getD}
 use Rattle.cells.specs.Limits.{mostTables, mostColumns}
 use Rattle.rows.specs.Lists.{_isIn_}
 use Rattle.vocabulary.specs.Report.{Query, tableCount, conditionAt}
-use Rattle.links.specs.Links.{Place, Link, linkOf}
+use Rattle.links.specs.Links.{TableColumn, Link, linkOf}
 
 -- a column that a table of a report may have
-abbrev pub Inside : Place → Type 0
+abbrev pub Inside : TableColumn → Type 0
 Inside a = (a .0 < mostTables) × (a .1 < mostColumns)
 
 -- the columns that a query's lines link are such columns: questions 3 and 6 see to it
@@ -15,7 +15,7 @@ abbrev pub LinksWithin : Query → Type 0
 LinksWithin q = (k : ℕ) (l : Link) → l isIn linkOf (conditionAt q k) → Inside (l .0) × Inside (l .1)
 
 -- a column that a query's table has
-abbrev pub Exists : Query → Place → Type 0
+abbrev pub Exists : Query → TableColumn → Type 0
 Exists q a = (a .0 < tableCount q) × (a .1 < getD (q .columns) (a .0) 0)
 
 -- the lines link columns that there are

@@ -18,11 +18,11 @@ use Rattle.rows.proofs.laws.Following.{Following, following-closed}
 use Rattle.vocabulary.specs.Report.{Query, conditionAt, tableCount}
 use Rattle.vocabulary.specs.Steps.{bitsOf}
 use Rattle.vocabulary.proofs.laws.BitLaws.{bit-elim, bit-intro, same-bits}
-use Rattle.links.specs.Links.{follows, closeSet, closeSets}
+use Rattle.links.specs.Links.{implied, closeSet, closeSets}
 use Rattle.links.specs.inner.ClassWords.{closedWord, closedWords}
 use Rattle.links.specs.inner.LinksWithin.{LinksWithin}
-use Rattle.links.proofs.laws.FollowLaws.{follows-more, follows-named}
-use Rattle.links.proofs.laws.CloseLaws.{none-follows, close-numbered, close-exact}
+use Rattle.links.proofs.laws.ImpliedLaws.{implied-more, implied-named}
+use Rattle.links.proofs.laws.CloseLaws.{none-implied, close-numbered, close-exact}
 use Rattle.links.proofs.laws.ClosedWordLaws.{closed-word}
 use Rattle.plan.specs.Sets.{Sets, setOf, setsBy, emptySets, blankingSets}
 use Rattle.plan.specs.Plan.{closedSets, groundOf, orderNodes, plannedJoins, pairSets, appliedSets}
@@ -45,14 +45,14 @@ module _ (q : Query) (S : Sets) (p : Proper q S) where
   no-closed t h = List·getD-eq-default (map (closeSet q) S) [] (rw (length-map S (closeSet q)) (omega arith))
 
   -- each set has what it had and what follows from that
-  pub closed-exact : (t k : ℕ) → (k isIn setOf (closeSets q S) t) ↔ (k isIn setOf S t ⊎ T (follows q (setOf S t) k))
+  pub closed-exact : (t k : ℕ) → (k isIn setOf (closeSets q S) t) ↔ (k isIn setOf S t ⊎ T (implied q (setOf S t) k))
   closed-exact t k = by-cases (decLt t (length S))
-      (λ h. subst (λ (l : List ℕ). (k isIn l) ↔ (k isIn setOf S t ⊎ T (follows q (setOf S t) k))) (sym (close-at t h))
+      (λ h. subst (λ (l : List ℕ). (k isIn l) ↔ (k isIn setOf S t ⊎ T (implied q (setOf S t) k))) (sym (close-at t h))
       (close-exact q (setOf S t) (λ i m. p .numbered t i m) k))
       (λ h. let e : setOf S t ≡ [] = no-set t h in (
         λ m. elim (subst (λ (l : List ℕ). k isIn l) (no-closed t h) m) [ ],
         λ s. ⊎-elim (λ m. elim (subst (λ (l : List ℕ). k isIn l) e m) [ ])
-            (λ x. absurd (none-follows q k (subst (λ (l : List ℕ). T (follows q l k)) e x))) s,
+            (λ x. absurd (none-implied q k (subst (λ (l : List ℕ). T (implied q l k)) e x))) s,
       ))
 
   -- a condition of a closed set is one of the closing of the set
@@ -69,9 +69,9 @@ module _ (q : Query) (S : Sets) (p : Proper q S) where
   -- closed sets with what follows from them are closed
   pub closed-closed : {D : Database ℕ} (laws : Lawful D) → ((k t : ℕ) → (laws .Names k t ↔ t isIn namesOf (conditionAt q k)))
       → Closed laws (setOf S) → Closed laws (setOf (closeSets q S))
-  closed-closed {D} laws names = following-closed {D = D} {laws = laws} (λ C k. T (follows q C k)) (setOf S) (setOf (closeSets q S)) closed-exact (record {
-    more = λ C C′ h k t. follows-more q C C′ h k t;
-    named = λ C k t u n. let (c, m, i) = follows-named q C k t u (names k u .0 n) in (c, m, names c u .1 i);
+  closed-closed {D} laws names = following-closed {D = D} {laws = laws} (λ C k. T (implied q C k)) (setOf S) (setOf (closeSets q S)) closed-exact (record {
+    more = λ C C′ h k t. implied-more q C C′ h k t;
+    named = λ C k t u n. let (c, m, i) = implied-named q C k t u (names k u .0 n) in (c, m, names c u .1 i);
   })
 
   -- as words

@@ -18,9 +18,9 @@ use Rattle.rows.proofs.laws.ListLaws.{here, all-elim, all-intro, any-elim, any-
 use Rattle.vocabulary.specs.Report.{Query, Join, Pair, tableCount, tableNumbers, conditionAt, conditionNumbers, namedBy, noCondition, joinPairs, joinOrder}
 use Rattle.vocabulary.specs.Nodes.{tablesAt, nodesOf, joinNodes, treesOf, joinTrees, joinTree}
 use Rattle.vocabulary.proofs.laws.WellRead.{WellRead, OfJoins}
-use Rattle.links.specs.Links.{Place, Link, sideLink, linkOf, linksOf, linked, statedBefore, placesOf, placePairs, derivedLinks, equalOf, withDerived}
+use Rattle.links.specs.Links.{TableColumn, Link, sideLink, linkOf, linksOf, chained, statedBefore, allColumns, columnPairs, derivedLinks, equalOf, withDerived}
 use Rattle.links.specs.inner.LinksWithin.{Exists, LinksExist}
-use Rattle.links.proofs.laws.FollowLaws.{link-elim}
+use Rattle.links.proofs.laws.ImpliedLaws.{link-elim}
 use Rattle.plan.specs.Sets.{Sets, taken, setAfter, setsAfter, setsBy, emptySets, blankingSets}
 use Rattle.plan.specs.Plan.{crosses}
 use Rattle.plan.specs.Full.{fullQuery}
@@ -131,7 +131,7 @@ fits-exist q ts k h l m =
     let (o, t, c, s) = link-elim k l m in
     let (x, y) = and-yes (columnExists q ts (k .table) (k .column)) (sideExists q ts (k .table) (k .side)) h in
     let z : T (columnExists q ts (l .1 .0) (l .1 .1) && not (eqb (k .table) (l .1 .0))) = subst (λ (i : Side). T (sideExists q ts (k .table) i)) s y in (
-      subst (λ (a : Place). Exists q a) (ap₂ (λ (a b : ℕ). (a, b)) t c) (column-exists q ts (k .table) (k .column) x),
+      subst (λ (a : TableColumn). Exists q a) (ap₂ (λ (a b : ℕ). (a, b)) t c) (column-exists q ts (k .table) (k .column) x),
       column-exists q ts (l .1 .0) (l .1 .1) (and-yes (columnExists q ts (l .1 .0) (l .1 .1)) (not (eqb (k .table) (l .1 .0))) z .0),
     )
 
@@ -149,21 +149,21 @@ links-exist q ok of k l m =
     fits-exist q _ (conditionAt q k) (all-elim _ (j .conditions) (all-elim _ (q .joins) (ok .six) j n) k i) l m
 
 -- every column of a query exists
-places-exist : (q : Query) (a : Place) → a isIn placesOf q → Exists q a
-unfolding placesOf tableNumbers
-places-exist q a m =
+columns-exist : (q : Query) (a : TableColumn) → a isIn allColumns q → Exists q a
+unfolding allColumns tableNumbers
+columns-exist q a m =
     let (t, _, n) = flatMap-elim (λ t. map (λ c. (t, c)) (range 0 (getD (q .columns) t 0))) (range 0 (tableCount q)) m in
     let (c, i, e) = map-elim (λ (c : ℕ). (t, c)) (range 0 (getD (q .columns) t 0)) n in
-    subst (λ (z : Place). Exists q z) e (exists-by q t c (let r = range-elim 0 (getD (q .columns) t 0) i in omega arith))
+    subst (λ (z : TableColumn). Exists q z) e (exists-by q t c (let r = range-elim 0 (getD (q .columns) t 0) i in omega arith))
 
 derived-exist : (q : Query) (S : Sets) (l : Link) → l isIn derivedLinks q S → Exists q (l .0) × Exists q (l .1)
-unfolding derivedLinks placePairs
+unfolding derivedLinks columnPairs
 derived-exist q S l m =
-    let (n, _) = keep-elim _ (placePairs q) m in
-    let (a, i, k) = flatMap-elim (λ (a : Place). map (λ b. (a, b)) (keep (λ (b : Place). ltb (a .0) (b .0)) (placesOf q))) (placesOf q) n in
-    let (b, j, e) = map-elim (λ (b : Place). (a, b)) (keep (λ (b : Place). ltb (a .0) (b .0)) (placesOf q)) k in
+    let (n, _) = keep-elim _ (columnPairs q) m in
+    let (a, i, k) = flatMap-elim (λ (a : TableColumn). map (λ b. (a, b)) (keep (λ (b : TableColumn). ltb (a .0) (b .0)) (allColumns q))) (allColumns q) n in
+    let (b, j, e) = map-elim (λ (b : TableColumn). (a, b)) (keep (λ (b : TableColumn). ltb (a .0) (b .0)) (allColumns q)) k in
     subst (λ (z : Link). Exists q (z .0) × Exists q (z .1)) e
-    (places-exist q a i, places-exist q b (keep-elim (λ (b : Place). ltb (a .0) (b .0)) (placesOf q) j .0))
+    (columns-exist q a i, columns-exist q b (keep-elim (λ (b : TableColumn). ltb (a .0) (b .0)) (allColumns q) j .0))
 
 -- and so with the derived conditions
 pub full-exist : (q : Query) → LinksExist q → LinksExist (fullQuery q)
@@ -199,7 +199,7 @@ module _ (columns : List ℕ) (joins : List Join) (conditions : List Condition) 
   sets-order nodes (j ∷ js) S = sets-order nodes js (setsAfter first nodes j S)
 
   full-order : fullQuery first .conditions ≡ fullQuery second .conditions
-  unfolding fullQuery withDerived derivedLinks linked linksOf statedBefore conditionAt placePairs placesOf tableNumbers tableCount blankingSets joinNodes nodesOf joinPairs emptySets
+  unfolding fullQuery withDerived derivedLinks chained linksOf statedBefore conditionAt columnPairs allColumns tableNumbers tableCount blankingSets joinNodes nodesOf joinPairs emptySets
   full-order = ap (λ (S : Sets). conditions ++ map equalOf (derivedLinks first S)) (sets-order (joinNodes first) joins (emptySets first))
 
 -- queries that differ in their order alone have the same conditions in all

@@ -1,6 +1,6 @@
 -- Laws of questions in order, over any list of them. Assumes nothing.
 use mathlib.Core.Path.{_≡_, refl, sym, ap, _∙_}
-use mathlib.Core.Logic.{_⊎_, inl, inr}
+use mathlib.Core.Logic.{_≢_, _⊎_, inl, inr}
 use mathlib.Core.Bool.{Bool, true, false}
 use mathlib.Core.List.{List, _∷_, [], _++_}
 use mathlib.Core.Option.{Option, none, some}
@@ -88,6 +88,24 @@ module _ {A : Type 0} where
   pub asked-yes : (q : Question A) (qs : List (Question A)) (a : A) → q .1 a ≡ true → firstNo (q ∷ qs) a ≡ firstNo qs a
   unfolding firstNo
   asked-yes q qs a e = ap (λ (b : Bool). ifNo b (q .0) (firstNo qs a)) e
+
+  -- a question that is answered "yes" can be left out
+  pub yes-aside : (qs ps : List (Question A)) (q : Question A) (a : A) → q .1 a ≡ true → firstNo (qs ++ (q ∷ ps)) a ≡ firstNo (qs ++ ps) a
+  yes-aside qs ps q a e =
+      first-append qs (q ∷ ps) a ∙ ap (thenNo (firstNo qs a)) (asked-yes q ps a e) ∙ sym (first-append qs ps a)
+
+  -- and so can one whose number is not that of the first no
+  pub not-first : (qs ps : List (Question A)) (q : Question A) (a : A) → firstNo (qs ++ (q ∷ ps)) a ≢ some (q .0)
+      → firstNo (qs ++ (q ∷ ps)) a ≡ firstNo (qs ++ ps) a
+  not-first qs ps q a n = before (firstNo qs a) refl
+    where
+      answer : (b : Bool) → q .1 a ≡ b → firstNo qs a ≡ none → firstNo (qs ++ (q ∷ ps)) a ≡ firstNo (qs ++ ps) a
+      answer true e f = yes-aside qs ps q a e
+      answer false e f = absurd (n (none-then qs (q ∷ ps) a f ∙ asked-no q ps a e))
+
+      before : (o : Option ℕ) → firstNo qs a ≡ o → firstNo (qs ++ (q ∷ ps)) a ≡ firstNo (qs ++ ps) a
+      before none f = answer (q .1 a) refl f
+      before (some k) f = no-then qs (q ∷ ps) a k f ∙ sym (no-then qs ps a k f)
 
   -- one last question, behind questions that turn nothing down
   pub last-question : (qs : List (Question A)) (q : Question A) (a : A) → firstNo qs a ≡ none

@@ -5,7 +5,7 @@ use native.Mathlib.Omega.{arith}
 use lib.ListN.{length, length-map}
 use Rattle.vocabulary.specs.inner.Stored.{queryIn}
 use Rattle.vocabulary.proofs.laws.StoredLaws.{condition-kept, condition-count}
-use Rattle.links.specs.inner.ClassWords.{linkNumbers, lineTold, linesTo, linesOf}
+use Rattle.links.specs.inner.ClassWords.{linkNumbers, lineTold, linesTo, statedLines}
 use Rattle.links.proofs.laws.ClassSteps.{lines-next}
 use Rattle.links.specs.declared.column.ColumnLink.{ColumnLink}
 use Rattle.links.specs.declared.lines.Lines.{Lines}
@@ -58,7 +58,7 @@ loop-again c =
     )
 
 returns : tie.Need-returns Inv-loop μ-loop
-unfolding linesOf
+unfolding statedLines
 returns c =
     let s = c .before .before in
     let a = s .args in

@@ -19,10 +19,10 @@ use Rattle.rows.specs.Lists.{_isIn_, range, any, keep}
 use Rattle.rows.proofs.laws.ListLaws.{here, there, any-elim, keep-append, flatMap-append, flatMap-elim, range-next, range-elim}
 use Rattle.vocabulary.specs.Report.{Query, tableCount, tableNumbers, conditionAt}
 use Rattle.vocabulary.specs.Bits.{wordSize}
-use Rattle.links.specs.Links.{Place, Link, Chain, linkOf, linksOf, linked, statedBefore, placesOf, placePairs, derivedLinks}
+use Rattle.links.specs.Links.{TableColumn, Link, LinkChain, linkOf, linksOf, chained, statedBefore, allColumns, columnPairs, derivedLinks}
 use Rattle.links.specs.inner.LinksWithin.{Exists, LinksExist, ColumnsFew}
 use Rattle.links.proofs.laws.ChainLaws.{chain-first, chain-sym}
-use Rattle.links.proofs.laws.FollowLaws.{linked-chain}
+use Rattle.links.proofs.laws.ImpliedLaws.{chained-elim}
 
 -- ---- parts of lists
 
@@ -111,11 +111,11 @@ range-more h m k l e = range-rest h m (k - m) e ∙ ap (λ (n : ℕ). flatMap h 
 -- ---- all columns that a report may have
 
 -- the column of a number
-abbrev pub placeAt : ℕ → Place
-placeAt i = (i / mostColumns, i % mostColumns)
+abbrev pub columnAt : ℕ → TableColumn
+columnAt i = (i / mostColumns, i % mostColumns)
 
-abbrev grid : List Place
-grid = map placeAt (range 0 wordSize)
+abbrev grid : List TableColumn
+grid = map columnAt (range 0 wordSize)
 
 grid-is : grid ≡ flatMap (λ t. map (λ c. (t, c)) (range 0 mostColumns)) (range 0 mostTables)
 unfolding range flatMap
@@ -128,10 +128,10 @@ module _ (q : Query) (few : ColumnsFew q) where
   abbrev columns : ℕ → ℕ
   columns t = getD (q .columns) t 0
 
-  module _ {B : Type 0} (F : Place → List B) (none : (a : Place) → ¬ Exists q a → F a ≡ []) where
-    places-all : flatMap F (placesOf q) ≡ flatMap F grid
-    unfolding placesOf tableNumbers tableCount
-    places-all =
+  module _ {B : Type 0} (F : TableColumn → List B) (none : (a : TableColumn) → ¬ Exists q a → F a ≡ []) where
+    columns-all : flatMap F (allColumns q) ≡ flatMap F grid
+    unfolding allColumns tableNumbers tableCount
+    columns-all =
         flat-flat F (λ t. map (λ c. (t, c)) (range 0 (columns t))) (range 0 n)
         ∙ flat-same (λ t. flatMap F (map (λ c. (t, c)) (range 0 (columns t)))) (λ t. flatMap F (map (λ c. (t, c)) (range 0 mostColumns))) (range 0 n)
         (λ t m.
@@ -143,60 +143,60 @@ module _ (q : Query) (few : ColumnsFew q) where
         ∙ sym (flat-flat F (λ t. map (λ c. (t, c)) (range 0 mostColumns)) (range 0 mostTables))
         ∙ ap (flatMap F) (sym grid-is)
 
-  keep-all : (p : Place → Bool) → ((a : Place) → T (p a) → Exists q a) → keep p (placesOf q) ≡ keep p grid
-  keep-all p h = keep-flat-if p (placesOf q) ∙ places-all (λ a. if p a then a ∷ [] else []) none ∙ sym (keep-flat-if p grid)
+  keep-all : (p : TableColumn → Bool) → ((a : TableColumn) → T (p a) → Exists q a) → keep p (allColumns q) ≡ keep p grid
+  keep-all p h = keep-flat-if p (allColumns q) ∙ columns-all (λ a. if p a then a ∷ [] else []) none ∙ sym (keep-flat-if p grid)
     where
-      none : (a : Place) → ¬ Exists q a → _≡_ {A = List Place} (if p a then a ∷ [] else []) []
+      none : (a : TableColumn) → ¬ Exists q a → _≡_ {A = List TableColumn} (if p a then a ∷ [] else []) []
       none a n = rw (is-false (p a) (not-T (p a) (λ t. n (h a t))))
 
   module _ (exist : LinksExist q) (S : List (List ℕ)) where
     -- the two columns give a derived condition
-    abbrev pub gives : Place → Place → Bool
-    gives a b = ltb (a .0) (b .0) && (any (λ C. linked q C a b) S && not (statedBefore q (length (q .conditions)) a b))
+    abbrev pub gives : TableColumn → TableColumn → Bool
+    gives a b = ltb (a .0) (b .0) && (any (λ C. chained q C a b) S && not (statedBefore q (length (q .conditions)) a b))
 
-    linked-exists : (C : List ℕ) (a b : Place) → T (linked q C a b) → Exists q a × Exists q b
+    chained-exists : (C : List ℕ) (a b : TableColumn) → T (chained q C a b) → Exists q a × Exists q b
     unfolding linksOf
-    linked-exists C a b t = (first a b (linked-chain q C a b t), first b a (chain-sym (linked-chain q C a b t)))
+    chained-exists C a b t = (first a b (chained-elim q C a b t), first b a (chain-sym (chained-elim q C a b t)))
       where
-        first : (a b : Place) → Chain (linksOf q C) a b → Exists q a
+        first : (a b : TableColumn) → LinkChain (linksOf q C) a b → Exists q a
         first a b c =
             let (l, m, e) = chain-first c in
             let (k, i, j) = flatMap-elim (λ (k : ℕ). linkOf (conditionAt q k)) C m in
             let (x, y) = exist k l j in
             ⊎-elim (λ f. subst (Exists q) f x) (λ f. subst (Exists q) f y) e
 
-    gives-exists : (a b : Place) → T (gives a b) → Exists q a × Exists q b
+    gives-exists : (a b : TableColumn) → T (gives a b) → Exists q a × Exists q b
     gives-exists a b t =
-        let (_, u) = and-yes (ltb (a .0) (b .0)) (any (λ C. linked q C a b) S && not (statedBefore q (length (q .conditions)) a b)) t in
-        let (v, _) = and-yes (any (λ C. linked q C a b) S) (not (statedBefore q (length (q .conditions)) a b)) u in
-        let (C, m, w) = any-elim (λ C. linked q C a b) S v in
-        linked-exists C a b w
+        let (_, u) = and-yes (ltb (a .0) (b .0)) (any (λ C. chained q C a b) S && not (statedBefore q (length (q .conditions)) a b)) t in
+        let (v, _) = and-yes (any (λ C. chained q C a b) S) (not (statedBefore q (length (q .conditions)) a b)) u in
+        let (C, m, w) = any-elim (λ C. chained q C a b) S v in
+        chained-exists C a b w
 
     -- the derived links, by their first column
-    abbrev from : Place → List Link
+    abbrev from : TableColumn → List Link
     from a = map (λ b. (a, b)) (keep (gives a) grid)
 
     derived-from : derivedLinks q S ≡ flatMap from grid
-    unfolding derivedLinks placePairs
+    unfolding derivedLinks columnPairs
     derived-from =
-        keep-flat test (λ a. map (λ b. (a, b)) (keep (λ (b : Place). ltb (a .0) (b .0)) (placesOf q))) (placesOf q)
-        ∙ flat-same (λ a. keep test (map (λ b. (a, b)) (keep (λ (b : Place). ltb (a .0) (b .0)) (placesOf q)))) from (placesOf q) (λ a m.
-        keep-map test (λ b. (a, b)) (keep (λ (b : Place). ltb (a .0) (b .0)) (placesOf q))
-        ∙ ap (map (λ b. (a, b))) (keep-twice (λ b. test (a, b)) (λ (b : Place). ltb (a .0) (b .0)) (placesOf q) ∙ keep-all (gives a) (λ b t. gives-exists a b t .1)))
-        ∙ places-all from (λ a n. ap (map (λ b. (a, b))) (keep-none (gives a) grid (λ b t. n (gives-exists a b t .0))))
+        keep-flat test (λ a. map (λ b. (a, b)) (keep (λ (b : TableColumn). ltb (a .0) (b .0)) (allColumns q))) (allColumns q)
+        ∙ flat-same (λ a. keep test (map (λ b. (a, b)) (keep (λ (b : TableColumn). ltb (a .0) (b .0)) (allColumns q)))) from (allColumns q) (λ a m.
+        keep-map test (λ b. (a, b)) (keep (λ (b : TableColumn). ltb (a .0) (b .0)) (allColumns q))
+        ∙ ap (map (λ b. (a, b))) (keep-twice (λ b. test (a, b)) (λ (b : TableColumn). ltb (a .0) (b .0)) (allColumns q) ∙ keep-all (gives a) (λ b t. gives-exists a b t .1)))
+        ∙ columns-all from (λ a n. ap (map (λ b. (a, b))) (keep-none (gives a) grid (λ b t. n (gives-exists a b t .0))))
       where
         test : Link → Bool
-        test l = any (λ C. linked q C (l .0) (l .1)) S && not (statedBefore q (length (q .conditions)) (l .0) (l .1))
+        test l = any (λ C. chained q C (l .0) (l .1)) S && not (statedBefore q (length (q .conditions)) (l .0) (l .1))
 
-        keep-none : (p : Place → Bool) (l : List Place) → ((a : Place) → ¬ T (p a)) → keep p l ≡ []
+        keep-none : (p : TableColumn → Bool) (l : List TableColumn) → ((a : TableColumn) → ¬ T (p a)) → keep p l ≡ []
         keep-none p l h = keep-flat-if p l ∙ flat-none (λ a. if p a then a ∷ [] else []) l (λ a. rw (is-false (p a) (not-T (p a) (h a))))
 
     -- the same by the numbers of columns
     pub derived-numbers : derivedLinks q S
-        ≡ flatMap (λ i. map (λ j. (placeAt i, placeAt j)) (keep (λ j. gives (placeAt i) (placeAt j)) (range 0 wordSize))) (range 0 wordSize)
+        ≡ flatMap (λ i. map (λ j. (columnAt i, columnAt j)) (keep (λ j. gives (columnAt i) (columnAt j)) (range 0 wordSize))) (range 0 wordSize)
     derived-numbers =
         derived-from
-        ∙ flat-map from placeAt (range 0 wordSize)
-        ∙ flat-same (λ i. from (placeAt i)) (λ i. map (λ j. (placeAt i, placeAt j)) (keep (λ j. gives (placeAt i) (placeAt j)) (range 0 wordSize))) (range 0 wordSize)
-        (λ i m. ap (map (λ b. (placeAt i, b))) (keep-map (gives (placeAt i)) placeAt (range 0 wordSize))
-        ∙ map-map (λ b. (placeAt i, b)) placeAt (keep (λ j. gives (placeAt i) (placeAt j)) (range 0 wordSize)))
+        ∙ flat-map from columnAt (range 0 wordSize)
+        ∙ flat-same (λ i. from (columnAt i)) (λ i. map (λ j. (columnAt i, columnAt j)) (keep (λ j. gives (columnAt i) (columnAt j)) (range 0 wordSize))) (range 0 wordSize)
+        (λ i m. ap (map (λ b. (columnAt i, b))) (keep-map (gives (columnAt i)) columnAt (range 0 wordSize))
+        ∙ map-map (λ b. (columnAt i, b)) columnAt (keep (λ j. gives (columnAt i) (columnAt j)) (range 0 wordSize)))

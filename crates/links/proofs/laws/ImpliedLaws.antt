@@ -21,22 +21,22 @@ use Rattle.cells.specs.declared.condition.Side.the-variants.{Column, Constant}
 use Rattle.rows.specs.Lists.{_isIn_, range, any, keep, has}
 use Rattle.rows.proofs.laws.ListLaws.{here, there, if-elim, any-elim, any-intro, flatMap-intro, flatMap-elim, Includes}
 use Rattle.vocabulary.specs.Report.{Query, conditionAt}
-use Rattle.links.specs.Links.{Chain, along, back, after, Place, Link, hasPlace, sideLink, linkOf, linksOf, groupsOf, linked, statedBefore, follows}
-use Rattle.links.proofs.laws.ChainLaws.{chain-more, chain-sym, chain-first, place-elim, place-intro, group-chain, chain-group}
+use Rattle.links.specs.Links.{LinkChain, along, back, after, TableColumn, Link, hasColumn, sideLink, linkOf, linksOf, groupsOf, chained, statedBefore, implied}
+use Rattle.links.proofs.laws.ChainLaws.{chain-more, chain-sym, chain-first, column-elim, column-intro, group-chain, chain-group}
 
 module _ (q : Query) where
-  pub linked-chain : (C : List ℕ) (a b : Place) → T (linked q C a b) → Chain (linksOf q C) a b
-  unfolding linked
-  linked-chain C a b h =
-      let (g, m, t) = any-elim (λ g. hasPlace g a && hasPlace g b) (groupsOf (linksOf q C)) h in
-      let (x, y) = and-yes (hasPlace g a) (hasPlace g b) t in
-      group-chain (linksOf q C) g m a b (place-elim g a x) (place-elim g b y)
+  pub chained-elim : (C : List ℕ) (a b : TableColumn) → T (chained q C a b) → LinkChain (linksOf q C) a b
+  unfolding chained
+  chained-elim C a b h =
+      let (g, m, t) = any-elim (λ g. hasColumn g a && hasColumn g b) (groupsOf (linksOf q C)) h in
+      let (x, y) = and-yes (hasColumn g a) (hasColumn g b) t in
+      group-chain (linksOf q C) g m a b (column-elim g a x) (column-elim g b y)
 
-  pub chain-linked : (C : List ℕ) (a b : Place) → Chain (linksOf q C) a b → T (linked q C a b)
-  unfolding linked
-  chain-linked C a b c =
+  pub chained-intro : (C : List ℕ) (a b : TableColumn) → LinkChain (linksOf q C) a b → T (chained q C a b)
+  unfolding chained
+  chained-intro C a b c =
       let (g, m, x, y) = chain-group (linksOf q C) c in
-      any-intro (λ g. hasPlace g a && hasPlace g b) m (yes-and (hasPlace g a) (hasPlace g b) (place-intro x) (place-intro y))
+      any-intro (λ g. hasColumn g a && hasColumn g b) m (yes-and (hasColumn g a) (hasColumn g b) (column-intro x) (column-intro y))
 
   links-more : (C C′ : List ℕ) → Includes C′ C → (l : Link) → l isIn linksOf q C → l isIn linksOf q C′
   unfolding linksOf
@@ -45,18 +45,18 @@ module _ (q : Query) where
       flatMap-intro (λ (k : ℕ). linkOf (conditionAt q k)) (h k n) i
 
   -- more conditions give no less
-  pub follows-more : (C C′ : List ℕ) → Includes C′ C → (k : ℕ) → T (follows q C k) → T (follows q C′ k)
-  unfolding follows
-  follows-more C C′ h k t =
-      let (l, m, x) = any-elim (λ (l : Link). linked q C (l .0) (l .1) && not (statedBefore q k (l .0) (l .1))) (linkOf (conditionAt q k)) t in
-      let (y, z) = and-yes (linked q C (l .0) (l .1)) (not (statedBefore q k (l .0) (l .1))) x in
-      any-intro (λ (l : Link). linked q C′ (l .0) (l .1) && not (statedBefore q k (l .0) (l .1))) m
-      (yes-and (linked q C′ (l .0) (l .1)) (not (statedBefore q k (l .0) (l .1)))
-      (chain-linked C′ (l .0) (l .1) (chain-more (links-more C C′ h) (linked-chain C (l .0) (l .1) y))) z)
+  pub implied-more : (C C′ : List ℕ) → Includes C′ C → (k : ℕ) → T (implied q C k) → T (implied q C′ k)
+  unfolding implied
+  implied-more C C′ h k t =
+      let (l, m, x) = any-elim (λ (l : Link). chained q C (l .0) (l .1) && not (statedBefore q k (l .0) (l .1))) (linkOf (conditionAt q k)) t in
+      let (y, z) = and-yes (chained q C (l .0) (l .1)) (not (statedBefore q k (l .0) (l .1))) x in
+      any-intro (λ (l : Link). chained q C′ (l .0) (l .1) && not (statedBefore q k (l .0) (l .1))) m
+      (yes-and (chained q C′ (l .0) (l .1)) (not (statedBefore q k (l .0) (l .1)))
+      (chained-intro C′ (l .0) (l .1) (chain-more (links-more C C′ h) (chained-elim C (l .0) (l .1) y))) z)
 
 -- ---- what a link names
 
-side-link : (a : Place) (s : Side) (l : Link) → l isIn sideLink a s → (l .0 ≡ a) × (s ≡ Column (l .1 .0) (l .1 .1))
+side-link : (a : TableColumn) (s : Side) (l : Link) → l isIn sideLink a s → (l .0 ≡ a) × (s ≡ Column (l .1 .0) (l .1 .1))
 unfolding sideLink
 side-link a (Column u d) l (here e) = (ap (λ (z : Link). z .0) e, ap (λ (z : Link). Column (z .1 .0) (z .1 .1)) (sym e))
 side-link a (Constant z) l m = elim m [ ]
@@ -66,7 +66,7 @@ pub link-elim : (k : Condition) (l : Link) → l isIn linkOf k
 unfolding linkOf
 link-elim k l m = ⊎-elim
     (λ (t, n). let (e, f) = side-link (k .table, k .column) (k .side) l n in
-    (eqb-yes t, ap (λ (z : Place). z .0) (sym e), ap (λ (z : Place). z .1) (sym e), f))
+    (eqb-yes t, ap (λ (z : TableColumn). z .0) (sym e), ap (λ (z : TableColumn). z .1) (sym e), f))
     (λ (t, n). elim n [ ]) (if-elim (λ (z : List Link). l isIn z) (eqb (k .operator) 2) m)
 
 -- a condition names the tables of its link's columns, and no other
@@ -86,19 +86,19 @@ link-names k l m u =
 
 module _ (q : Query) (C : List ℕ) where
   -- a table of a chain's first column is named by a condition of the set
-  end-named : {a b : Place} → Chain (linksOf q C) a b → (c : ℕ) × c isIn C × a .0 isIn namesOf (conditionAt q c)
+  end-named : {a b : TableColumn} → LinkChain (linksOf q C) a b → (c : ℕ) × c isIn C × a .0 isIn namesOf (conditionAt q c)
   unfolding linksOf
   end-named p =
       let (l, m, e) = chain-first p in
       let (c, n, i) = flatMap-elim (λ (k : ℕ). linkOf (conditionAt q k)) C m in
-      (c, n, link-names (conditionAt q c) l i _ .1 (⊎-elim (λ f. inl (ap (λ (z : Place). z .0) (sym f))) (λ f. inr (ap (λ (z : Place). z .0) (sym f))) e))
+      (c, n, link-names (conditionAt q c) l i _ .1 (⊎-elim (λ f. inl (ap (λ (z : TableColumn). z .0) (sym f))) (λ f. inr (ap (λ (z : TableColumn). z .0) (sym f))) e))
 
   -- what follows names tables that the set names
-  pub follows-named : (k : ℕ) → T (follows q C k) → (u : ℕ) → u isIn namesOf (conditionAt q k) → (c : ℕ) × c isIn C × u isIn namesOf (conditionAt q c)
-  unfolding follows
-  follows-named k t u n =
-      let (l, m, x) = any-elim (λ (l : Link). linked q C (l .0) (l .1) && not (statedBefore q k (l .0) (l .1))) (linkOf (conditionAt q k)) t in
-      let p = linked-chain q C (l .0) (l .1) (and-yes (linked q C (l .0) (l .1)) (not (statedBefore q k (l .0) (l .1))) x .0) in
+  pub implied-named : (k : ℕ) → T (implied q C k) → (u : ℕ) → u isIn namesOf (conditionAt q k) → (c : ℕ) × c isIn C × u isIn namesOf (conditionAt q c)
+  unfolding implied
+  implied-named k t u n =
+      let (l, m, x) = any-elim (λ (l : Link). chained q C (l .0) (l .1) && not (statedBefore q k (l .0) (l .1))) (linkOf (conditionAt q k)) t in
+      let p = chained-elim q C (l .0) (l .1) (and-yes (chained q C (l .0) (l .1)) (not (statedBefore q k (l .0) (l .1))) x .0) in
       ⊎-elim (λ e. let (c, i, j) = end-named p in (c, i, subst (λ (v : ℕ). v isIn namesOf (conditionAt q c)) (sym e) j))
       (λ e. let (c, i, j) = end-named (chain-sym p) in (c, i, subst (λ (v : ℕ). v isIn namesOf (conditionAt q c)) (sym e) j))
       (link-names (conditionAt q k) l m u .0 n)
@@ -114,11 +114,11 @@ cells-equal x y b e = subst T (sym (holds-equal x y b)) (subst (λ (z : ℤ). T 
 
 module _ (cells : Cells) (row : Row) where
   -- the cell of a column in the row
-  abbrev cellAt : Place → ℤ
+  abbrev cellAt : TableColumn → ℤ
   cellAt a = cellIn cells row (a .0) (a .1)
 
   -- two columns have one cell in the row, which is not blank
-  abbrev pub Same : Place → Place → Type 0
+  abbrev pub Same : TableColumn → TableColumn → Type 0
   Same a b = (isBlank (cellIn cells row (a .0) (a .1)) ≡ false) × (cellIn cells row (a .0) (a .1) ≡ cellIn cells row (b .0) (b .1))
 
   -- an `=` C line is true exactly if its columns have one cell
@@ -135,25 +135,25 @@ module _ (cells : Cells) (row : Row) where
       let (o, t, c, s) = link-elim k l m in
       subst T (sym (true-holds cells k row)) (rw (o, t, c, s) (cells-equal _ _ b e))
 
-  same-back : (a b : Place) → Same a b → Same b a
+  same-back : (a b : TableColumn) → Same a b → Same b a
   same-back a b (h, e) = (ap isBlank (sym e) ∙ h, sym e)
 
   module _ (q : Query) (C : List ℕ) (every : (c : ℕ) → c isIn C → T (trueIn cells (conditionAt q c) row)) where
-    one-same : {a b : Place} → (a, b) isIn linksOf q C → Same a b
+    one-same : {a b : TableColumn} → (a, b) isIn linksOf q C → Same a b
     unfolding linksOf
     one-same m =
         let (c, n, i) = flatMap-elim (λ (k : ℕ). linkOf (conditionAt q k)) C m in
         link-true (conditionAt q c) _ i (every c n)
 
-    chain-same : {a b : Place} → Chain (linksOf q C) a b → Same a b
+    chain-same : {a b : TableColumn} → LinkChain (linksOf q C) a b → Same a b
     chain-same (along m) = one-same m
     chain-same (back {a} {b} m) = same-back a b (one-same m)
     chain-same (after p r) = (chain-same p .0, chain-same p .1 ∙ chain-same r .1)
 
     -- what follows is true where the set is
-    pub follows-true : (k : ℕ) → T (follows q C k) → T (trueIn cells (conditionAt q k) row)
-    unfolding follows
-    follows-true k t =
-        let (l, m, x) = any-elim (λ (l : Link). linked q C (l .0) (l .1) && not (statedBefore q k (l .0) (l .1))) (linkOf (conditionAt q k)) t in
+    pub implied-true : (k : ℕ) → T (implied q C k) → T (trueIn cells (conditionAt q k) row)
+    unfolding implied
+    implied-true k t =
+        let (l, m, x) = any-elim (λ (l : Link). chained q C (l .0) (l .1) && not (statedBefore q k (l .0) (l .1))) (linkOf (conditionAt q k)) t in
         true-link (conditionAt q k) l m
-        (chain-same (linked-chain q C (l .0) (l .1) (and-yes (linked q C (l .0) (l .1)) (not (statedBefore q k (l .0) (l .1))) x .0)))
+        (chain-same (chained-elim q C (l .0) (l .1) (and-yes (chained q C (l .0) (l .1)) (not (statedBefore q k (l .0) (l .1))) x .0)))
