@@ -4,7 +4,7 @@ use mathlib.Core.Path.{_≡_}
 use mathlib.Core.List.{List, [], _∷_, _++_, flatMap}
 use Prim.Native.Nat.{ℕ, _+_, _*_, _≤_}
 use lib.ListN.{length, drop}
-use Rattle.cells.specs.Limits.{mostTables, mostWritten, mostSteps, printRoom}
+use Rattle.cells.specs.Limits.{mostTables, mostConditions, mostSteps, printRoom}
 use Rattle.vocabulary.specs.Facts.{firstTallies}
 use Rattle.vocabulary.specs.declared.facts.Facts.{Facts}
 use Rattle.vocabulary.specs.declared.facts.Tally.{Tally}
@@ -25,9 +25,9 @@ rowNumber (Rows n) = n
 rowNumber (Refused n) = 0
 
 -- how many numbers an answer of the report has: four counts, a set for each table, five for each step, the count of conditions, and three
--- for each condition that a text may write. Specification 10.10
+-- for each condition that there may be in all. Specification 10.10
 abbrev pub answerRoom : ℕ
-answerRoom = 4 + mostTables + 5 * mostSteps + 1 + 3 * mostWritten
+answerRoom = 4 + mostTables + 5 * mostSteps + 1 + 3 * mostConditions
 
 -- a step: kind, first node, second node, rows, conditions. Specification 10.10
 unfoldable pub stepNumbers : Step → List ℕ
@@ -40,7 +40,7 @@ tallyNumbers t = t .holds ∷ t .fails ∷ t .unknown ∷ []
 -- an answer of the report: rows, tables, count of steps, status, the sets, the steps, the count of conditions, their counts. Specification 10.10
 unfoldable pub answerNumbers : Answer → Facts → ℕ → List Step → List ℕ
 answerNumbers a f count steps =
-    (rowNumber a ∷ f .tables ∷ count ∷ statusOf a ∷ []) ++ f .sets ++ flatMap stepNumbers steps ++ (f .conditions ∷ []) ++ flatMap tallyNumbers (firstTallies f mostWritten)
+    (rowNumber a ∷ f .tables ∷ count ∷ statusOf a ∷ []) ++ f .sets ++ flatMap stepNumbers steps ++ (f .conditions ∷ []) ++ flatMap tallyNumbers (firstTallies f mostConditions)
 
 -- numbers at the front of a buffer; the rest of it keeps its contents. Specification 10.10
 unfoldable pub atFront : List ℕ → List ℕ → List ℕ

@@ -2,7 +2,6 @@
 use cells::limits::CONDITIONS;
 use cells::limits::STEPS;
 use cells::limits::TABLES;
-use cells::limits::WRITTEN;
 use engine::answer::Answer;
 use vocabulary::facts::Facts;
 use vocabulary::facts::Tally;
@@ -11,7 +10,7 @@ ghost use mathlib.Core.Path.{_≡_};
 ghost use mathlib.Core.List.{_∷_, [], map, flatMap};
 ghost use Prim.Native.Nat.{_+_, _*_, _≤_};
 ghost use lib.ListN.{length};
-ghost use Rattle.cells.specs.Limits.{mostTables, mostWritten, mostSteps};
+ghost use Rattle.cells.specs.Limits.{mostTables, mostConditions, mostSteps};
 ghost use Rattle.rows.specs.Lists.{range};
 ghost use Rattle.vocabulary.specs.Facts.{tallyFrom};
 ghost use Rattle.print.specs.inner.Output.{Written};
@@ -116,7 +115,7 @@ fn put_tally(buffer: &mut [u64], at: usize, t: Tally) -> usize
     put(buffer, next, t.unknown as u64)
 }
 
-// The counts of the conditions that a text may write, one behind the other.
+// The counts of the conditions that there may be in all, one behind the other.
 fn put_tallies(
     buffer: &mut [u64],
     at: usize,
@@ -124,13 +123,13 @@ fn put_tallies(
     fails: [u32; CONDITIONS],
     unknown: [u32; CONDITIONS],
 ) -> usize
-    requires { ⌜ at + 3 * mostWritten ≤ length (now buffer) ⌝ }
-    ensures { λ r. ⌜ Written (now (buffer .entry)) at (flatMap tallyNumbers (map (tallyFrom holds fails unknown) (range 0 mostWritten))) (3 * mostWritten)
+    requires { ⌜ at + 3 * mostConditions ≤ length (now buffer) ⌝ }
+    ensures { λ r. ⌜ Written (now (buffer .entry)) at (flatMap tallyNumbers (map (tallyFrom holds fails unknown) (range 0 mostConditions))) (3 * mostConditions)
         (now (buffer .exit)) r ⌝ }
 {
     let mut next = at;
     let mut k: usize = 0;
-    while k < WRITTEN {
+    while k < CONDITIONS {
         let t = Tally {
             holds: holds[k],
             fails: fails[k],

@@ -1,16 +1,14 @@
 -- The proof of what specs/Derivation.antt states of derived conditions. Assumes nothing.
-use mathlib.Core.Path.{_≡_, refl, sym, ap, _∙_, subst}
-use mathlib.Core.Logic.{_≢_, _↔_, inl, inr}
-use mathlib.Core.Bool.{Bool, true, false}
+use mathlib.Core.Path.{_≡_, refl, sym, ap, _∙_}
+use mathlib.Core.Logic.{_≢_}
 use mathlib.Core.List.{List, [], _∷_, _++_}
 use mathlib.Core.Option.{Option, none, some}
 use Prim.Native.Nat.{ℕ, _≤_}
 use native.Mathlib.Omega.{arith}
-use lib.Dec.{T, leb, le→leb}
+use lib.Dec.{T, le→leb}
 use lib.ListN.{length}
 use mir.Facts.{leb-yes}
 use Rattle.cells.specs.Limits.{mostConditions}
-use Rattle.cells.proofs.laws.BoolLaws.{clash}
 use Rattle.cells.specs.Row.{Row}
 use Rattle.rows.proofs.laws.ListLaws.{here}
 use Rattle.vocabulary.specs.Asking.{Question, firstNo, about}
@@ -23,7 +21,7 @@ use Rattle.text.specs.TableQuestions.{tableQuestions}
 use Rattle.text.proofs.laws.ReadingLaws.{report-well-read}
 use Rattle.links.proofs.laws.ImpliedLaws.{chained-elim, chained-intro}
 use Rattle.links.proofs.laws.CloseLaws.{close-true}
-use Rattle.plan.specs.Plan.{groundOf, plainGround, planTree, blankings}
+use Rattle.plan.specs.Plan.{groundOf, plainGround, blankings}
 use Rattle.plan.specs.Full.{fullQuery, fullReport}
 use Rattle.plan.specs.Questions.{treeQuestions, queryQuestions, orderQuestions, question9, question13}
 use Rattle.plan.proofs.laws.BlankingListLaws.{own-list}

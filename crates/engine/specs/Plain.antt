@@ -12,7 +12,6 @@ use Rattle.vocabulary.specs.KeyColumns.{keyQuestions}
 use Rattle.vocabulary.specs.Report.{Report, queryOf}
 use Rattle.vocabulary.specs.Steps.{bitsOf}
 use Rattle.vocabulary.specs.Tallies.{tallies}
-use Rattle.vocabulary.specs.declared.step.Step.{Step}
 use Rattle.text.specs.Bytes.{Bytes}
 use Rattle.text.specs.TableQuestions.{tableQuestions}
 use Rattle.plan.specs.Sets.{blankingSets}

@@ -8,7 +8,6 @@ use vocabulary::bits;
 use vocabulary::query::StoredQuery;
 ghost use mathlib.Core.Path.{_≡_};
 ghost use Rattle.cells.specs.Choice.{if_then_else_};
-ghost use Rattle.vocabulary.specs.Bits.{hasBit};
 ghost use Rattle.vocabulary.specs.inner.Stored.{queryIn};
 ghost use Rattle.vocabulary.specs.inner.Counted.{Counted};
 ghost use Rattle.links.specs.inner.ClassWords.{noLink, linkNumbers, groupedWords, linkedWords, classWords, eitherWords, allClasses};

@@ -5,10 +5,7 @@ use cells::limits::COLUMNS;
 use cells::limits::TABLES;
 use vocabulary::bits;
 ghost use mathlib.Core.Path.{_≡_};
-ghost use Rattle.vocabulary.specs.Bits.{hasBit};
 ghost use Rattle.links.specs.inner.ClassWords.{columnNumber, noLink, linkNumbers, isLink, inGroup};
-ghost use mathlib.Core.Bool.{_&&_};
-ghost use lib.ListN.{getD};
 
 // Columns that a report may have in all: a number for each.
 pub const ALL_COLUMNS: usize = TABLES * COLUMNS;

@@ -6,7 +6,6 @@ use vocabulary::bits;
 use vocabulary::query::StoredQuery;
 ghost use mathlib.Core.Path.{_≡_};
 ghost use Prim.Native.Nat.{_<_};
-ghost use lib.ListN.{length};
 ghost use Rattle.vocabulary.specs.Bits.{wordSize};
 ghost use Rattle.vocabulary.specs.inner.Stored.{queryIn};
 ghost use Rattle.vocabulary.specs.inner.Counted.{Counted};

@@ -5,7 +5,7 @@ use Prim.Native.Nat.{ℕ, zero, suc, _≤_}
 use native.Mathlib.Omega.{arith}
 use lib.ListN.{length, take, getD, drop}
 use lib.Seq.{take-length}
-use Rattle.cells.specs.Limits.{mostWritten}
+use Rattle.cells.specs.Limits.{mostConditions}
 use Rattle.rows.specs.Lists.{range}
 use Rattle.rows.proofs.laws.ListLaws.{flatMap-append, range-next}
 use Rattle.vocabulary.specs.Facts.{tallyFrom, firstTallies}
@@ -53,7 +53,7 @@ front-written {w} {b = b} {r = r} h p =
 
 -- the parts of an answer, one behind the other
 pub answer-parts : (a : Answer) (f : Facts) (count : ℕ) (steps : List Step) {rows status : ℕ} → rows ≡ rowNumber a → status ≡ statusOf a
-    → (rows ∷ f .tables ∷ count ∷ status ∷ []) ++ f .sets ++ flatMap stepNumbers steps ++ (f .conditions ∷ []) ++ flatMap tallyNumbers (map (tallyFrom (f .holds) (f .fails) (f .unknown)) (range 0 mostWritten))
+    → (rows ∷ f .tables ∷ count ∷ status ∷ []) ++ f .sets ++ flatMap stepNumbers steps ++ (f .conditions ∷ []) ++ flatMap tallyNumbers (map (tallyFrom (f .holds) (f .fails) (f .unknown)) (range 0 mostConditions))
     ≡ answerNumbers a f count steps
 unfolding answerNumbers firstTallies
 answer-parts a f count steps e g = rw (e, g)

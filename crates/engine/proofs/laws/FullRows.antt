@@ -6,10 +6,10 @@ use mathlib.Core.List.{List, [], _∷_, _++_, map, flatMap}
 use Prim.Native.Nat.{ℕ, _<_, _≤_}
 use lib.Dec.{T}
 use lib.ListN.{length}
-use Rattle.cells.specs.Condition.{Cells, trueIn}
+use Rattle.cells.specs.Condition.{trueIn}
 use Rattle.cells.specs.Row.{Row, blankRow}
 use Rattle.cells.specs.declared.condition.Condition.{Condition}
-use Rattle.rows.specs.Lists.{_isIn_, all, keep, orElse}
+use Rattle.rows.specs.Lists.{_isIn_, all, orElse}
 use Rattle.rows.proofs.laws.ListLaws.{here, there, keep-same}
 use Rattle.rows.specs.Rows.{merge, ordered}
 use Rattle.rows.specs.Trees.{Database, Tree, leaf, join, allTrue, matches, joined, rowsOf}

@@ -1,13 +1,13 @@
 -- Chains of links: two columns are in one group exactly if a chain links them. Assumes nothing.
 use mathlib.Core.Path.{_≡_, refl, sym, ap, ap₂, _∙_, subst}
-use mathlib.Core.Logic.{_↔_, _⊎_, inl, inr, ⊎-elim}
-use mathlib.Core.Bool.{Bool, true, false, not, _&&_, _||_}
-use mathlib.Core.List.{List, [], _∷_, _++_, flatMap}
+use mathlib.Core.Logic.{_⊎_, inl, inr, ⊎-elim}
+use mathlib.Core.Bool.{Bool, true, false, not}
+use mathlib.Core.List.{List, [], _∷_, flatMap}
 use Prim.Native.Nat.{ℕ}
 use lib.Dec.{T, eqb, T-not}
 use mir.Facts.{and-yes, yes-and, or-yes, eqb-yes, yes-eqb}
-use Rattle.rows.specs.Lists.{_isIn_, any, keep}
-use Rattle.rows.proofs.laws.ListLaws.{here, there, decT, or-left, or-right, any-elim, any-intro, keep-elim, keep-intro, flatMap-intro, flatMap-elim}
+use Rattle.rows.specs.Lists.{_isIn_, keep}
+use Rattle.rows.proofs.laws.ListLaws.{here, there, or-left, or-right, any-elim, any-intro, keep-elim, keep-intro, flatMap-intro, flatMap-elim}
 use Rattle.links.specs.Links.{LinkChain, along, back, after, TableColumn, Link, sameColumn, hasColumn, touches, joinGroups, groupsOf}
 
 pub chain-sym : {L : List Link} {a b : TableColumn} → LinkChain L a b → LinkChain L b a

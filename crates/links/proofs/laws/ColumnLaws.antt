@@ -1,22 +1,21 @@
 -- The columns that there are, among all that a report may have; and the derived links as the columns with which each column gives one.
 -- Assumes nothing.
 use mathlib.Core.Path.{_≡_, refl, sym, ap, ap₂, _∙_, subst}
-use mathlib.Core.Logic.{_↔_, _⊎_, inl, inr, ⊎-elim, by-cases}
+use mathlib.Core.Logic.{⊎-elim}
 use mathlib.Core.Bool.{Bool, true, false, not, _&&_}
 use mathlib.Core.List.{List, [], _∷_, _++_, map, flatMap, append-nil, map-append, map-map}
-use Prim.Native.Nat.{ℕ, zero, suc, _<_, _≤_, _+_, _-_, _*_, _/_, _%_}
-use native.Mathlib.Decide.{decLt}
+use Prim.Native.Nat.{ℕ, zero, suc, _≤_, _+_, _-_, _/_, _%_}
 use native.Mathlib.Nat.{add-zero, add-suc}
 use native.Mathlib.Omega.{arith}
 use lib.Dec.{T, ltb}
-use lib.ListN.{length, getD, List·getD-eq-default}
+use lib.ListN.{length, getD}
 use mir.Facts.{and-yes}
 use Rattle.cells.specs.Choice.{if_then_else_}
 use Rattle.cells.specs.Limits.{mostTables, mostColumns}
 use Rattle.cells.proofs.laws.BoolLaws.{is-false}
 use lib.Dec.{not-T}
 use Rattle.rows.specs.Lists.{_isIn_, range, any, keep}
-use Rattle.rows.proofs.laws.ListLaws.{here, there, any-elim, keep-append, flatMap-append, flatMap-elim, range-next, range-elim}
+use Rattle.rows.proofs.laws.ListLaws.{here, there, any-elim, keep-append, flatMap-append, flatMap-elim, range-next}
 use Rattle.vocabulary.specs.Report.{Query, tableCount, tableNumbers, conditionAt}
 use Rattle.vocabulary.specs.Bits.{wordSize}
 use Rattle.links.specs.Links.{TableColumn, Link, LinkChain, linkOf, linksOf, chained, statedBefore, allColumns, columnPairs, derivedLinks}

@@ -1,13 +1,12 @@
 -- What follows from a set: it is monotone, names tables that the set names, and is true where the set is. Assumes nothing.
-use mathlib.Core.Path.{_≡_, refl, sym, ap, ap₂, _∙_, subst}
+use mathlib.Core.Path.{_≡_, sym, ap, _∙_, subst}
 use mathlib.Core.Logic.{_↔_, _⊎_, inl, inr, ⊎-elim}
-use mathlib.Core.Bool.{Bool, true, false, not, _&&_, _||_}
-use mathlib.Core.List.{List, [], _∷_, _++_, flatMap}
+use mathlib.Core.Bool.{false, not, _&&_}
+use mathlib.Core.List.{List, [], _∷_}
 use Prim.Native.Nat.{ℕ}
-use lib.Dec.{T, eqb, eqb-refl, T-not, not-T}
-use lib.IntN.{ℤ, pos, negsuc}
-use mir.Facts.{and-yes, yes-and, or-yes, eqb-yes, yes-eqb}
-use Rattle.cells.specs.Choice.{if_then_else_}
+use lib.Dec.{T, eqb}
+use lib.IntN.{ℤ}
+use mir.Facts.{and-yes, yes-and, eqb-yes}
 use Rattle.cells.specs.Cell.{eqZ, isBlank}
 use Rattle.cells.specs.Operator.{holds}
 use Rattle.cells.proofs.laws.OperatorLaws.{eqZ-true, eqZ-refl, holds-left, holds-equal}
@@ -18,7 +17,7 @@ use Rattle.cells.specs.Condition.{Cells, cellIn, sideIn, trueIn, sideNames, nam
 use Rattle.cells.specs.declared.condition.Condition.{Condition}
 use Rattle.cells.specs.declared.condition.Side.{Side}
 use Rattle.cells.specs.declared.condition.Side.the-variants.{Column, Constant}
-use Rattle.rows.specs.Lists.{_isIn_, range, any, keep, has}
+use Rattle.rows.specs.Lists.{_isIn_}
 use Rattle.rows.proofs.laws.ListLaws.{here, there, if-elim, any-elim, any-intro, flatMap-intro, flatMap-elim, Includes}
 use Rattle.vocabulary.specs.Report.{Query, conditionAt}
 use Rattle.links.specs.Links.{LinkChain, along, back, after, TableColumn, Link, hasColumn, sideLink, linkOf, linksOf, groupsOf, chained, statedBefore, implied}

@@ -2,7 +2,7 @@
 -- line is a first one where no line before it states its link. Assumes nothing.
 use mathlib.Core.Path.{_≡_, refl, sym, ap, _∙_, subst}
 use mathlib.Core.Logic.{_↔_, _⊎_, inl, inr, ⊎-elim, by-cases}
-use mathlib.Core.Bool.{Bool, true, false, not, _&&_, _||_}
+use mathlib.Core.Bool.{Bool, not, _&&_, _||_}
 use mathlib.Core.List.{List, [], _∷_}
 use Prim.Native.Nat.{ℕ, zero, suc, _<_, _^_}
 use native.Mathlib.Decide.{ℕ-discrete}
@@ -14,8 +14,8 @@ use lib.Seq.{getD-set-same, getD-set-other}
 use mir.Facts.{and-yes, yes-and, or-yes, eqb-yes, yes-eqb}
 use borrow.Author.Tests.{lt-ltb, eq-eqb, ne-eqb}
 use Rattle.cells.specs.declared.condition.Condition.{Condition}
-use Rattle.rows.specs.Lists.{_isIn_, range, any}
-use Rattle.rows.proofs.laws.ListLaws.{here, there, or-left, or-right, any-elim, any-intro, range-intro, range-elim}
+use Rattle.rows.specs.Lists.{_isIn_, range}
+use Rattle.rows.proofs.laws.ListLaws.{here, or-left, or-right, any-elim, any-intro, range-intro, range-elim}
 use Rattle.vocabulary.specs.Report.{Query, conditionAt}
 use Rattle.vocabulary.specs.Bits.{wordSize, hasBit}
 use Rattle.vocabulary.specs.inner.Words.{onlyIf}

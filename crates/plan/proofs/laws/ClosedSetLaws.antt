@@ -1,5 +1,5 @@
 -- Sets with what follows from them: proper and closed where the sets are, true where they are, and as words. Assumes nothing.
-use mathlib.Core.Path.{_≡_, refl, sym, _∙_, subst}
+use mathlib.Core.Path.{_≡_, sym, _∙_, subst}
 use mathlib.Core.Logic.{_↔_, _⊎_, inl, ⊎-elim, by-cases}
 use mathlib.Core.List.{List, [], map}
 use Prim.Native.Nat.{ℕ, _<_, _≤_}
@@ -10,11 +10,11 @@ use lib.ListN.{length, getD, length-map, List·getD-map, List·getD-eq-default}
 use Rattle.cells.specs.Limits.{mostTables}
 use Rattle.cells.specs.Condition.{namesOf}
 use Rattle.cells.proofs.laws.TableLaws.{getD-within}
-use Rattle.rows.specs.Lists.{_isIn_, range}
+use Rattle.rows.specs.Lists.{_isIn_}
 use Rattle.rows.specs.Trees.{Database}
 use Rattle.rows.proofs.laws.ShapesLaws.{Lawful}
 use Rattle.rows.proofs.laws.Sets.{Closed}
-use Rattle.rows.proofs.laws.Following.{Following, following-closed}
+use Rattle.rows.proofs.laws.Following.{following-closed}
 use Rattle.vocabulary.specs.Report.{Query, conditionAt, tableCount}
 use Rattle.vocabulary.specs.Steps.{bitsOf}
 use Rattle.vocabulary.proofs.laws.BitLaws.{bit-elim, bit-intro, same-bits}

@@ -23,7 +23,7 @@ use Rattle.rows.specs.declared.kind.Kind.the-variants.{Inner, Outer, Product}
 use Rattle.rows.proofs.laws.ShapesLaws.{BlanksLeft, BlanksRight, Lawful, HasTable, table-listed}
 use Rattle.rows.proofs.laws.Sets.{Applied, Closed}
 use Rattle.rows.proofs.laws.Preserved.{RightOfOuter, NoProduct, preserved-everywhere}
-use Rattle.vocabulary.specs.Report.{Query, Join, tableCount, tableNumbers, conditionNumbers, conditionAt, namedBy, joinPairs, joinOrder}
+use Rattle.vocabulary.specs.Report.{Query, Join, tableCount, tableNumbers, conditionNumbers, conditionAt, namedBy, joinPairs}
 use Rattle.vocabulary.specs.Nodes.{tablesAt, treeAt, treeOf, joinNodes, joinTrees, joinTree, nodesOf, treesOf}
 use Rattle.vocabulary.proofs.laws.NodeLaws.{Matched}
 use Rattle.vocabulary.proofs.laws.WellRead.{Numbered}

@@ -2,24 +2,23 @@
 -- not, its count says so. Assumes nothing.
 use mathlib.Core.Path.{_≡_, refl, sym, ap, _∙_, subst}
 use mathlib.Core.Logic.{by-cases}
-use mathlib.Core.List.{List, [], _++_, map}
+use mathlib.Core.List.{List, [], map}
 use Prim.Native.Nat.{ℕ, _<_, _≤_, _+_}
 use native.Mathlib.Decide.{decLt}
 use native.Mathlib.Omega.{arith}
 use lib.Dec.{leb}
-use lib.ListN.{length, getD, take, length-map}
-use borrow.Author.Tests.{le-leb, lt-leb}
+use lib.ListN.{length, getD, length-map}
+use borrow.Author.Tests.{lt-leb}
 use Rattle.cells.specs.Limits.{mostTables, mostConditions}
 use Rattle.cells.specs.declared.condition.Condition.{Condition}
 use Rattle.rows.specs.Lists.{_isIn_}
 use Rattle.rows.proofs.laws.ListLaws.{isIn-at}
-use Rattle.vocabulary.specs.Report.{Query, tableCount}
-use Rattle.vocabulary.specs.Steps.{bitsOf}
+use Rattle.vocabulary.specs.Report.{Query}
 use Rattle.vocabulary.specs.inner.Stored.{queryIn}
 use Rattle.vocabulary.proofs.laws.StoredLaws.{condition-count}
 use Rattle.vocabulary.specs.declared.query.StoredQuery.{StoredQuery}
 use Rattle.links.specs.Links.{derivedLinks, equalOf, withDerived}
-use Rattle.links.specs.inner.ClassWords.{derivedNumbered, withNumbered}
+use Rattle.links.specs.inner.ClassWords.{withNumbered}
 use Rattle.links.specs.inner.LinksWithin.{LinksExist, ColumnsFew}
 use Rattle.links.specs.declared.derived.Numbered.{Numbered}
 use Rattle.links.proofs.laws.DerivedWordLaws.{numberedAll, Behind, all-behind, all-over, derived-numbered}

@@ -8,7 +8,7 @@ use native.Mathlib.Omega.{arith}
 use lib.Bits.{bitOr}
 use lib.Dec.{ltb, T, not-T}
 use lib.IntN.{ℤ}
-use lib.ListN.{length, getD, List·getD-eq-default}
+use lib.ListN.{length, List·getD-eq-default}
 use mir.Facts.{ltb-yes, ltb-no}
 use Rattle.cells.specs.Condition.{namesOf, sideNames}
 use Rattle.cells.specs.declared.condition.Condition.{Condition}

@@ -44,7 +44,7 @@ use Rattle.prepare.proofs.laws.Standing.{Kept, read-refused, read-kept}
 use Rattle.prepare.proofs.laws.PassedLaws.{read-well, tables-rows, tree-accepted, query-accepted, query-thirteen, Ready, passed-ready}
 use Rattle.prepare.proofs.laws.FullStanding.{full-report, full-rows, thirteen-kept, full-text}
 use Rattle.prepare.specs.declared.accept.AcceptAnswer as Accept
-use Rattle.prepare.specs.declared.accept.AcceptOutcome.the-variants.{Refused, Accepted}
+use Rattle.prepare.specs.declared.accept.AcceptOutcome.the-variants.{Accepted}
 
 -- ---- the tests that the code makes, in order
 

@@ -1,18 +1,17 @@
 -- What is kept of a text with its derived conditions stands for the report with its derived conditions. Assumes nothing.
 use mathlib.Core.Path.{_≡_, refl, sym, ap, _∙_, subst}
 use mathlib.Core.Logic.{by-cases}
-use mathlib.Core.Bool.{Bool}
 use mathlib.Core.List.{List}
 use mathlib.Core.Option.{Option, none, some}
-use Prim.Native.Nat.{ℕ, _<_, _≤_, _+_}
+use Prim.Native.Nat.{ℕ, _<_, _≤_}
 use native.Mathlib.Decide.{decLt}
 use native.Mathlib.Omega.{arith}
 use lib.Dec.{T, leb}
 use lib.IntN.{ℤ}
-use lib.ListN.{length, getD, take, List·getD-eq-default}
+use lib.ListN.{length, getD, List·getD-eq-default}
 use lib.Seq.{take-all}
 use mir.Facts.{leb-yes}
-use Rattle.cells.specs.Limits.{mostTables, mostJoins, mostConditions}
+use Rattle.cells.specs.Limits.{mostJoins, mostConditions}
 use Rattle.cells.specs.Condition.{Cells, trueIn}
 use Rattle.cells.specs.Row.{Row}
 use Rattle.cells.specs.declared.condition.Condition.{Condition}
@@ -33,16 +32,16 @@ use Rattle.text.specs.Reading.{readReport, textLines, reportOf}
 use Rattle.text.specs.TableQuestions.{tableQuestions, question3}
 use Rattle.text.proofs.laws.ReadingLaws.{lines-of-joins}
 use Rattle.cells.proofs.laws.BoolLaws.{clash}
-use Rattle.links.specs.Links.{Link, linkOf, withDerived}
-use Rattle.links.specs.inner.LinksWithin.{Exists, LinksExist, ColumnsFew, LinksWithin}
+use Rattle.links.specs.Links.{linkOf, withDerived}
+use Rattle.links.specs.inner.LinksWithin.{LinksExist, ColumnsFew, LinksWithin}
 use Rattle.links.proofs.laws.DerivedWordLaws.{links-within}
 use Rattle.plan.specs.Full.{fullQuery, fullReport}
 use Rattle.plan.specs.Questions.{question13}
 use Rattle.plan.specs.inner.FullWords.{fullStored, IsFull}
 use Rattle.plan.proofs.laws.QueryLaws.{Accepted}
-use Rattle.plan.proofs.laws.FullLaws.{full-count, links-exist, full-exist, full-accepted}
+use Rattle.plan.proofs.laws.FullLaws.{full-count, links-exist, full-exist}
 use Rattle.plan.proofs.laws.FullStoredLaws.{full-counted, full-room, full-query, full-after, thirteen-by, full-others}
-use Rattle.questions.proofs.laws.Whole.{whole-full, same-joins, same-conditions}
+use Rattle.questions.proofs.laws.Whole.{whole-full, same-conditions}
 use Rattle.prepare.specs.inner.Accept.{FullText}
 use Rattle.prepare.proofs.laws.PassedLaws.{columns-limit}
 

@@ -8,14 +8,14 @@ use Prim.Native.Nat.{ℕ, zero, suc, _<_, _≤_}
 use native.Mathlib.Decide.{decLt}
 use native.Mathlib.Omega.{arith}
 use lib.Dec.{T, T-not, ltb}
-use lib.IntN.{ℤ, pos, negsuc}
+use lib.IntN.{ℤ}
 use lib.ListN.{length, getD, length-map, List·getD-map, List·getD-eq-default}
 use mir.Facts.{and-yes, yes-and, ltb-yes, yes-ltb}
 use Rattle.cells.specs.Cell.{blankCell, isBlank, eqZ}
 use Rattle.cells.proofs.laws.BoolLaws.{clash, is-true}
 use Rattle.cells.proofs.laws.OperatorLaws.{eqZ-true, eqZ-refl}
-use Rattle.rows.specs.Lists.{all, any, _isIn_}
-use Rattle.rows.proofs.laws.ListLaws.{here, there, all-elim, any-elim, any-intro, getD-isIn, isIn-at}
+use Rattle.rows.specs.Lists.{all, any}
+use Rattle.rows.proofs.laws.ListLaws.{all-elim, any-elim, any-intro, getD-isIn, isIn-at}
 use Rattle.vocabulary.specs.Report.{Table, Report}
 use Rattle.vocabulary.specs.Database.{tableAt, rowCountIn, cellsOf}
 use Rattle.vocabulary.specs.KeyColumns.{cellsOfColumn, allDiffer, areKey, keyHolds, question12, TellsApart, KeysTellApart}

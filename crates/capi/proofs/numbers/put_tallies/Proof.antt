@@ -5,7 +5,7 @@ use Prim.Native.Nat.{_≤_, _-_, _*_}
 use native.Mathlib.Omega.{arith}
 use lib.ListN.{length}
 use borrow.Author.Needs.{needs}
-use Rattle.cells.specs.Limits.{mostWritten}
+use Rattle.cells.specs.Limits.{mostConditions}
 use Rattle.vocabulary.specs.Facts.{tallyFrom}
 use Rattle.print.specs.inner.Output.{Written}
 use Rattle.print.proofs.laws.OutputLaws.{written-as, written-none}
@@ -17,10 +17,10 @@ use Rattle.capi.proofs.numbers.put_tallies.Tie as tie
 
 abbrev Inv-loop : tie.InvT-loop
 Inv-loop buffer₀ at holds fails unknown next₀ k₀ buffer next k =
-    (k ≤ mostWritten) × (length buffer ≡ length buffer₀) × Written buffer₀ at (upTo (λ i. tallyNumbers (tallyFrom holds fails unknown i)) k) (3 * k) buffer next
+    (k ≤ mostConditions) × (length buffer ≡ length buffer₀) × Written buffer₀ at (upTo (λ i. tallyNumbers (tallyFrom holds fails unknown i)) k) (3 * k) buffer next
 
 abbrev μ-loop : tie.MeasureT-loop
-μ-loop buffer₀ at holds fails unknown next₀ k₀ buffer next k = mostWritten - k
+μ-loop buffer₀ at holds fails unknown next₀ k₀ buffer next k = mostConditions - k
 
 loop-holds : tie.Need-loop-holds Inv-loop μ-loop
 unfolding upTo
@@ -68,9 +68,9 @@ returns : tie.Need-returns Inv-loop μ-loop
 returns c =
     let l = c .before in
     let a = l .before .before .args in
-    let e : l .loop .k ≡ mostWritten = omega arith in
+    let e : l .loop .k ≡ mostConditions = omega arith in
     written-as
-    (ap (upTo (λ i. tallyNumbers (tallyFrom (a .t3) (a .t4) (a .t5) i))) e ∙ parts-range tallyNumbers (tallyFrom (a .t3) (a .t4) (a .t5)) mostWritten)
+    (ap (upTo (λ i. tallyNumbers (tallyFrom (a .t3) (a .t4) (a .t5) i))) e ∙ parts-range tallyNumbers (tallyFrom (a .t3) (a .t4) (a .t5)) mostConditions)
     (omega arith)
     (l .loop .inv .2)
 

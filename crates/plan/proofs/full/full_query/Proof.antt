@@ -3,7 +3,6 @@ use mathlib.Core.Path.{sym, ap, _∙_}
 use borrow.Author.Needs.{needs}
 use Rattle.vocabulary.specs.inner.Stored.{queryIn}
 use Rattle.links.specs.inner.ClassWords.{derivedNumbered, withNumbered}
-use Rattle.links.specs.declared.derived.Numbered.{Numbered}
 use Rattle.links.proofs.laws.ApartLaws.{apart-derived, with-own}
 use Rattle.plan.specs.inner.FullWords.{fullStored}
 use Rattle.plan.proofs.full.full_query.Statement.{statement}

@@ -1,6 +1,5 @@
 -- `prepare::accept::ask` meets its contract: the first no of what the query is asked. Assumes nothing.
 use mathlib.Core.Path.{_≡_, sym, _∙_, subst}
-use native.Mathlib.Omega.{arith}
 use lib.ListN.{length, length-map}
 use borrow.Author.Needs.{needs}
 use borrow.Author.Tests.{not-true, not-false}
