@@ -25,9 +25,9 @@ use Rattle.engine.specs.Calls.{Lent, question1, question1Direct, written
 use Rattle.engine.specs.declared.answer.Answer.the-variants.{Rows, Refused}
 
 -- Two texts and their lines (question 2 turns neither down), with the same T, D, J, C and K lines. "The query with its tables is
--- accepted if nothing that the direct reading is asked before question 11 turns either text down [3 to 7, 12
--- and 13]; an order is admitted if no
--- question that the direct reading skips [9] turns down the text that holds it", here the second. Specification 8.4, 8.5
+-- accepted if nothing that the direct reading is asked before question 11 turns either text down [3 to 7, 12 and
+-- 13]; an order is admitted if no question that the direct reading skips [9] turns down the text that holds it", here the second.
+-- Specification 8.4, 8.5
 pub record SameQuery (first second : Bytes) (a b : List Line) : Type 0 where
   pub first-read : textLines first ≡ some a
   pub second-read : textLines second ≡ some b

@@ -1,4 +1,5 @@
-// Whether no two `=` C lines share a column. Most reports have such lines; then every set is closed and nothing is derived.
+// Whether no two `=` C lines share a column. Most reports have such lines; then nothing more follows from any set, and
+// no condition is derived.
 use crate::column;
 use crate::column::ColumnLink;
 use vocabulary::bits;

@@ -1,7 +1,7 @@
 -- Document 02, item 5: with the blanking sets of its item 2 "two usable conditions can never pull a pair different ways, whatever the tree
 -- and order"; any one of them tells how the pair is joined, and it is joined by one of document 01's four kinds. This file says what is
--- stated of a query and its sets, which item 6 closes; proofs/laws/FourKindsLaws.antt proves it of every query that questions 5 to 7 do not
--- turn down, whatever its P lines, with its blanking sets and with the closed ones. Nothing here speaks of cells. Specification 7.12. Assumes
+-- stated of a query and its sets; proofs/laws/FourKindsLaws.antt proves it of every query that questions 5 to 7 do not turn down, whatever
+-- its P lines, with its blanking sets and with what follows from them (item 6). Nothing here speaks of cells. Specification 7.12. Assumes
 -- nothing.
 use mathlib.Core.Path.{_≡_}
 use mathlib.Core.Logic.{_≢_}

@@ -32,7 +32,7 @@ unfoldable pub inEvery : Sets → List ℕ → ℕ → Bool
 inEvery S ts k = all (λ t. has (setOf S t) k) ts
 
 -- the usable conditions of a pair: "C lines naming one table under each, which are in the set of every table under s, or of every
--- table under l". Specification 7.2
+-- table under l"; "At pairs derived conditions count as C lines" (document 02, item 6). Specification 7.2
 unfoldable pub usable : Query → Sets → List ℕ → List ℕ → List ℕ
 usable q S s l = keep (λ k. crosses (conditionAt q k) s l && (inEvery S s k || inEvery S l k)) (conditionNumbers q)
 

@@ -1,5 +1,5 @@
--- The questions that each run is asked, in their order: document 01, "Questions, in order", and document 02, items 4
--- and 6. Assumes nothing.
+-- The questions that each run is asked, in their order: document 01, "Questions, in order", and document 02, items 4 and
+-- 6. Assumes nothing.
 use mathlib.Core.Bool.{Bool}
 use mathlib.Core.List.{List, _++_, [], _∷_}
 use Rattle.vocabulary.specs.Report.{Report, queryOf}
