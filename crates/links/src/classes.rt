@@ -2,15 +2,13 @@
 use crate::column;
 use crate::column::ALL_COLUMNS;
 use crate::column::ColumnLink;
-use cells::condition::Condition;
 use cells::limits::TABLES;
 use vocabulary::bits;
 use vocabulary::query::StoredQuery;
 ghost use mathlib.Core.Path.{_≡_};
-ghost use Rattle.cells.specs.Choice.{if_then_else_};
 ghost use Rattle.vocabulary.specs.inner.Stored.{queryIn};
 ghost use Rattle.vocabulary.specs.inner.Counted.{Counted};
-ghost use Rattle.links.specs.inner.ClassWords.{noLink, linkNumbers, groupedWords, linkedWords, classWords, eitherWords, allClasses};
+ghost use Rattle.links.specs.inner.ClassWords.{groupedWords, linkedWords, classWords, eitherWords, allClasses};
 
 // Each column's word with a group that it may be one of.
 fn grouped(classes: [u64; ALL_COLUMNS], group: u64) -> [u64; ALL_COLUMNS]
@@ -40,16 +38,6 @@ fn linked(classes: [u64; ALL_COLUMNS], l: ColumnLink) -> [u64; ALL_COLUMNS]
     grouped(classes, both | own)
 }
 
-// The link of a condition where it is in the set.
-fn link_in(test: bool, c: Condition) -> ColumnLink
-    ensures { λ r. ⌜ r ≡ (if test then linkNumbers c else noLink) ⌝ }
-{
-    if test {
-        return column::link_of(c);
-    }
-    column::no_link()
-}
-
 // The columns that a chain of the set's lines links to each column.
 pub(crate) fn classes_of(q: StoredQuery, set: u64) -> [u64; ALL_COLUMNS]
     requires { ⌜ Counted q ⌝ }
@@ -59,9 +47,11 @@ pub(crate) fn classes_of(q: StoredQuery, set: u64) -> [u64; ALL_COLUMNS]
     let mut classes = [0u64; ALL_COLUMNS];
     let mut k: usize = 0;
     while k < n {
-        let c = q.conditions[k];
-        let next = linked(classes, link_in(bits::member(set, k as u64), c));
-        classes = next;
+        if bits::member(set, k as u64) {
+            let c = q.conditions[k];
+            let next = linked(classes, column::link_of(c));
+            classes = next;
+        }
         k += 1;
     }
     classes

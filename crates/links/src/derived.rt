@@ -111,26 +111,18 @@ fn with_column(s: Numbered, i: usize, word: u64) -> Numbered
     all
 }
 
-// With the derived conditions of column i; most columns have none.
-fn with_derived(s: Numbered, i: usize, word: u64) -> Numbered
-    requires { ⌜ i < wordSize ⌝ }
-    ensures { λ r. ⌜ r ≡ columnTo s i word wordSize ⌝ }
-{
-    if word == 0 {
-        return s;
-    }
-    with_column(s, i, word)
-}
-
-// With the derived conditions of all columns.
+// With the derived conditions of all columns; most columns have none.
 fn with_all(s: Numbered, classes: [u64; ALL_COLUMNS], stated: [u64; ALL_COLUMNS]) -> Numbered
     ensures { λ r. ⌜ r ≡ derivedTo s classes stated wordSize ⌝ }
 {
     let mut all = s;
     let mut i: usize = 0;
     while i < ALL_COLUMNS {
-        let next = with_derived(all, i, derived_with(classes, stated, i));
-        all = next;
+        let word = derived_with(classes, stated, i);
+        if word != 0 {
+            let next = with_column(all, i, word);
+            all = next;
+        }
         i += 1;
     }
     all

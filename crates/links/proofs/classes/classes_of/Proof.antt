@@ -1,14 +1,17 @@
 -- `links::classes::classes_of` meets its contract: the words of the conditions so far. Assumes nothing.
 use mathlib.Core.Path.{_≡_, refl, sym, ap, ap₂, _∙_}
+use mathlib.Core.Logic.{⊎-elim}
 use mathlib.Core.Bool.{Bool}
-use Prim.Native.Nat.{_≤_, _-_}
+use mathlib.Core.List.{List}
+use Prim.Native.Nat.{ℕ, _≤_, _-_}
 use native.Mathlib.Omega.{arith}
 use lib.ListN.{length, length-map}
 use Rattle.cells.specs.Choice.{if_then_else_}
-use Rattle.cells.specs.declared.condition.Condition.{Condition}
+use Rattle.vocabulary.specs.Report.{conditionAt}
 use Rattle.vocabulary.specs.inner.Stored.{queryIn}
 use Rattle.vocabulary.proofs.laws.StoredLaws.{condition-kept, condition-count}
-use Rattle.links.specs.inner.ClassWords.{noLink, linkNumbers, linkedWords, linkIn, classesTo, classWords}
+use Rattle.links.specs.inner.ClassWords.{noLink, linkNumbers, isLink, linkedWords, linkIn, classesTo, classWords}
+use Rattle.links.specs.declared.column.ColumnLink.{ColumnLink}
 use Rattle.links.proofs.laws.ClassSteps.{classes-next}
 use borrow.Author.Needs.{needs}
 use Rattle.links.proofs.classes.classes_of.Statement.{statement}
@@ -36,8 +39,8 @@ element-copy-out-c c = search needs
 member-requires : tie.Need-member-requires Inv-loop μ-loop
 member-requires c κs = search needs
 
-link-in-requires : tie.Need-link-in-requires Inv-loop μ-loop
-link-in-requires c κs = search needs
+link-of-requires : tie.Need-link-of-requires Inv-loop μ-loop
+link-of-requires c κs = search needs
 
 linked-requires : tie.Need-linked-requires Inv-loop μ-loop
 linked-requires c κs = search needs
@@ -49,17 +52,24 @@ loop-less : tie.Need-loop-less Inv-loop μ-loop
 loop-less c = search needs
 
 loop-again : tie.Need-loop-again Inv-loop μ-loop
-unfolding linkIn
+unfolding linkIn linkedWords isLink noLink
 loop-again c =
-    let e = c .before .before .before .before in
+    let e = c .before .before in
     let s = e .before .before in
     let a = s .args in
-    let cl : length (a .t1 .conditions) ≡ 64 = sym (length-map (a .t1 .conditions) _) ∙ s .good .0 .1 .1 .1 .1 .1 .1 .1 .0 .1 .0 .1 in (
+    let cl : length (a .t1 .conditions) ≡ 64 = sym (length-map (a .t1 .conditions) _) ∙ s .good .0 .1 .1 .1 .1 .1 .1 .1 .0 .1 .0 .1 in
+    let kept : List ℕ = classesTo (queryIn (a .t1)) (a .set) (e .before .loop .k) in
+    let own : ColumnLink = linkNumbers (conditionAt (queryIn (a .t1)) (e .before .loop .k)) in
+    let with-own : Bool → List ℕ = λ b. linkedWords kept (if b then own else noLink) in
+    let member = c .before .member .ensures in (
       search needs,
       search needs,
-      c .linked .ensures ∙ ap₂ linkedWords (e .before .loop .inv .2) (c .before .link-in .ensures
-          ∙ ap₂ (λ (b : Bool) (k : Condition). if b then linkNumbers k else noLink)
-          (c .before .before .member .ensures) (condition-kept (a .t1) (omega arith) _ _ (e .loop-test .taken)))
+      ⊎-elim
+          (λ x. x .4 ∙ x .3 .ensures
+          ∙ ap₂ linkedWords (e .before .loop .inv .2) (x .2 .ensures ∙ ap linkNumbers (condition-kept (a .t1) (omega arith) _ _ (e .loop-test .taken)))
+          ∙ ap with-own (sym (x .0 .taken) ∙ member))
+          (λ x. x .1 ∙ e .before .loop .inv .2 ∙ ap with-own (sym (x .0 .left) ∙ member))
+          (c .if1 .came)
           ∙ sym (classes-next (queryIn (a .t1)) (a .set) (e .before .loop .k)),
     )
 
@@ -80,10 +90,10 @@ classes-of-spec =
     μ-loop
     cast-n
     loop-holds
+    member-requires
     mul-c
     element-copy-out-c
-    member-requires
-    link-in-requires
+    link-of-requires
     linked-requires
     add-k
     loop-less

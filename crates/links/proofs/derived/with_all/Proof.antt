@@ -1,10 +1,11 @@
 -- `links::derived::with_all` meets its contract: the derived conditions of the columns so far. Assumes nothing.
 use mathlib.Core.Path.{_≡_, refl, sym, ap, ap₂, _∙_}
+use mathlib.Core.Logic.{⊎-elim}
 use Prim.Native.Nat.{ℕ, _≤_, _-_}
 use native.Mathlib.Omega.{arith}
 use Rattle.vocabulary.specs.Bits.{wordSize}
 use Rattle.links.specs.inner.ClassWords.{columnTo, derivedTo}
-use Rattle.links.proofs.laws.ClassSteps.{derived-next}
+use Rattle.links.proofs.laws.ClassSteps.{column-none, derived-next}
 use Rattle.links.specs.declared.derived.Numbered.{Numbered}
 use borrow.Author.Needs.{needs}
 use Rattle.links.proofs.derived.with_all.Statement.{statement}
@@ -23,8 +24,8 @@ loop-holds c = (search needs, refl)
 derived-with-requires : tie.Need-derived-with-requires Inv-loop μ-loop
 derived-with-requires c κs = search needs
 
-with-derived-requires : tie.Need-with-derived-requires Inv-loop μ-loop
-with-derived-requires c κs = search needs
+with-column-requires : tie.Need-with-column-requires Inv-loop μ-loop
+with-column-requires c κs = search needs
 
 add-i : tie.Need-add-i Inv-loop μ-loop
 add-i c = search needs
@@ -35,10 +36,14 @@ loop-less c = search needs
 loop-again : tie.Need-loop-again Inv-loop μ-loop
 loop-again c =
     let e = c .before .before .before in
-    let a = e .before .args in (
+    let a = e .before .args in
+    let word = c .before .derived-with .ensures in (
       search needs,
-      c .with-derived .ensures
-          ∙ ap₂ (λ (r : Numbered) (w : ℕ). columnTo r (e .loop .i) w wordSize) (e .loop .inv .1) (c .before .derived-with .ensures)
+      ⊎-elim
+          (λ x. x .2 ∙ x .1 .ensures ∙ ap₂ (λ (r : Numbered) (w : ℕ). columnTo r (e .loop .i) w wordSize) (e .loop .inv .1) word)
+          (λ x. x .1 ∙ e .loop .inv .1 ∙ sym (column-none (derivedTo (a .s) (a .classes) (a .stated) (e .loop .i)) (e .loop .i) wordSize)
+          ∙ ap (λ (w : ℕ). columnTo (derivedTo (a .s) (a .classes) (a .stated) (e .loop .i)) (e .loop .i) w wordSize) (sym (x .0 .left) ∙ word))
+          (c .if1 .came)
           ∙ sym (derived-next (a .s) (a .classes) (a .stated) (e .loop .i)),
     )
 
@@ -53,7 +58,7 @@ with-all-spec =
     μ-loop
     loop-holds
     derived-with-requires
-    with-derived-requires
+    with-column-requires
     add-i
     loop-less
     loop-again
