@@ -1,4 +1,5 @@
 -- What stands beside the rows and the steps of an answer. Specification 10.7. Assumes nothing.
+use mathlib.Core.Bool.{false}
 use mathlib.Core.List.{List, map}
 use Prim.Native.Nat.{ℕ}
 use lib.ListN.{replicate, getD}
@@ -11,7 +12,7 @@ use Rattle.vocabulary.specs.declared.facts.Tally.{Tally}
 unfoldable pub noTally : Tally
 noTally = record { holds = 0; fails = 0; unknown = 0 }
 
--- after a refusal there is no table and no condition. Specification 10.7
+-- after a refusal there is no table, no condition and no full outer join. Specification 10.7
 unfoldable pub noFacts : Facts
 noFacts = record {
   tables = 0;
@@ -20,6 +21,8 @@ noFacts = record {
   holds = replicate mostConditions 0;
   fails = replicate mostConditions 0;
   unknown = replicate mostConditions 0;
+  «full_outer» = false;
+  added = 0;
 }
 
 -- the counts of a condition, by its number: how often it is true, false, unknown. Specification 10.7

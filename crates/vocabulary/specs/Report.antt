@@ -1,4 +1,5 @@
 -- What a report says: document 01, "Report text". Specification 2.9, 2.10, 2.13, 2.15. Assumes nothing.
+use mathlib.Core.Bool.{Bool}
 use mathlib.Core.List.{List, map, flatMap, [], _∷_}
 use mathlib.Core.Option.{Option}
 use Prim.Native.Nat.{ℕ}
@@ -28,19 +29,22 @@ pub record Join : Type 0 where
 abbrev pub Pair : Type 0
 Pair = ℕ × ℕ
 
--- what is planned: each table's count of columns, the J lines, the C and K lines by their condition number, the P lines. Specification 2.10, 2.13
+-- what is planned: each table's count of columns, the J lines, the C and K lines by their condition number, the P lines, and whether the
+-- last J line is a full outer join, kind F. That one stands among the joins as an outer join. Specification 2.10, 2.13, 2.17
 pub record Query : Type 0 where
   pub columns : List ℕ
   pub joins : List Join
   pub conditions : List Condition
   pub pairs : List Pair
+  pub fullOuter : Bool
 
--- the whole report. Specification 2.9, 2.10, 2.13
+-- the whole report. Specification 2.9, 2.10, 2.13, 2.17
 pub record Report : Type 0 where
   pub tables : List Table
   pub joins : List Join
   pub conditions : List Condition
   pub pairs : List Pair
+  pub fullOuter : Bool
 
 -- the report without its cells
 unfoldable pub queryOf : Report → Query
@@ -49,6 +53,7 @@ queryOf r = record {
   joins = r .joins;
   conditions = r .conditions;
   pairs = r .pairs;
+  fullOuter = r .fullOuter;
 }
 
 -- how many tables there are. Specification 2.9

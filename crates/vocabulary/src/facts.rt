@@ -13,7 +13,8 @@ pub struct Tally {
 }
 
 // How many tables there are, and each one's set as bits; of a table that there is not, none. How many conditions there are, and how
-// often each is true, false, unknown; of a condition that there is not, 0.
+// often each is true, false, unknown; of a condition that there is not, 0. Whether the last join is a full outer one, and how many rows
+// of its right side were added; 0 where it is not.
 pub struct Facts {
     pub tables: usize,
     pub sets: [u64; TABLES],
@@ -21,9 +22,11 @@ pub struct Facts {
     pub holds: [u32; CONDITIONS],
     pub fails: [u32; CONDITIONS],
     pub unknown: [u32; CONDITIONS],
+    pub full_outer: bool,
+    pub added: usize,
 }
 
-// After a refusal there is no table and no condition.
+// After a refusal there is no table, no condition and no full outer join.
 pub fn no_facts() -> Facts
     ensures { λ r. ⌜ r ≡ noFacts ⌝ }
 {
@@ -34,5 +37,7 @@ pub fn no_facts() -> Facts
         holds: [0u32; CONDITIONS],
         fails: [0u32; CONDITIONS],
         unknown: [0u32; CONDITIONS],
+        full_outer: false,
+        added: 0,
     }
 }

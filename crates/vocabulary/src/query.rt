@@ -22,7 +22,8 @@ pub struct StoredPair {
     pub right: u16,
 }
 
-// Each count is of all lines of the text; an array has the first ones.
+// Each count is of all lines of the text; an array has the first ones. `full_outer` tells whether the last J line is a full outer join,
+// which stands among the joins as an outer one.
 pub struct StoredQuery {
     pub table_count: u16,
     pub layout: Layout,
@@ -32,4 +33,5 @@ pub struct StoredQuery {
     pub conditions: [Condition; CONDITIONS],
     pub pair_count: u16,
     pub pairs: [StoredPair; PAIRS],
+    pub full_outer: bool,
 }

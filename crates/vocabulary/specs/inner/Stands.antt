@@ -27,6 +27,7 @@ pub record Stands (s : StoredQuery) (cells : List ℤ) (r : Report) : Type 0 whe
   pub conditions : queryIn s .conditions ≡ take mostConditions (queryOf r .conditions)
   pub pair-count : s .«pair_count» ≡ length (queryOf r .pairs)
   pub pairs : queryIn s .pairs ≡ take mostPairs (queryOf r .pairs)
+  pub full-outer : queryIn s .fullOuter ≡ queryOf r .fullOuter
   -- a join's conditions are among those that there are, where no join is left out
   pub ranges : s .«join_count» ≤ mostJoins → (i : ℕ) → i < s .«join_count» → (d : StoredJoin)
       → getD (s .joins) i d .first + getD (s .joins) i d .count ≤ s .«condition_count»

@@ -30,6 +30,7 @@ queryIn s = record {
   joins = map joinIn (take (s .«join_count») (s .joins));
   conditions = take (s .«condition_count») (s .conditions);
   pairs = map pairIn (take (s .«pair_count») (s .pairs));
+  fullOuter = s .«full_outer»;
 }
 
 -- a join that no J line has put there
