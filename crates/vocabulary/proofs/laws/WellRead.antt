@@ -15,14 +15,14 @@ abbrev pub Numbered : Query → Join → Type 0
 Numbered q j = (c : ℕ) → c isIn j .conditions → c isIn conditionNumbers q
 
 -- there is a last join, and it is an outer one
-abbrev pub LastOuter : List Join → Type 0
-LastOuter js = (i : ℕ) × (suc i ≡ length js) × ((d : Join) → getD js i d .kind ≡ Outer)
+abbrev pub LastJoinOuter : List Join → Type 0
+LastJoinOuter js = (i : ℕ) × (suc i ≡ length js) × ((d : Join) → getD js i d .kind ≡ Outer)
 
 -- what the text's reading gives: the conditions of a join are conditions of the query, no J line is a product, and a full outer join stands
 -- among the joins as an outer one
 pub record WellRead (q : Query) : Type 0 where
   pub each : (j : Join) → j isIn q .joins → Numbered q j × BlanksRight (j .kind)
-  pub last : T (q .fullOuter) → LastOuter (q .joins)
+  pub last : T (q .fullOuter) → LastJoinOuter (q .joins)
 
 -- each condition is one of a join
 abbrev pub OfJoins : Query → Type 0
