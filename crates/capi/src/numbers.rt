@@ -14,7 +14,7 @@ ghost use Rattle.cells.specs.Limits.{mostTables, mostConditions, mostSteps};
 ghost use Rattle.rows.specs.Lists.{range};
 ghost use Rattle.vocabulary.specs.Facts.{tallyFrom};
 ghost use Rattle.print.specs.inner.Output.{Written};
-ghost use Rattle.capi.specs.Numbers.{answerRoom, statusOf, rowNumber, stepNumbers, tallyNumbers, answerNumbers};
+ghost use Rattle.capi.specs.Numbers.{answerRoom, statusOf, rowNumber, flagNumber, stepNumbers, tallyNumbers, answerNumbers};
 
 // 0 for an answer, or the number of the refusal.
 pub fn status_of(a: Answer) -> u8
@@ -141,6 +141,26 @@ fn put_tallies(
     next
 }
 
+// 1 for yes, 0 for no.
+fn flag(b: bool) -> u64
+    ensures { λ r. ⌜ r ≡ flagNumber b ⌝ }
+{
+    if b {
+        return 1;
+    }
+    0
+}
+
+// Whether the last join is a full outer one, and how many rows were added.
+fn put_added(buffer: &mut [u64], at: usize, full_outer: bool, added: u64) -> usize
+    requires { ⌜ at + 2 ≤ length (now buffer) ⌝ }
+    ensures { λ r. ⌜ Written (now (buffer .entry)) at (flagNumber full_outer ∷ added ∷ []) 2 (now (buffer .exit)) r ⌝ }
+{
+    let yes = flag(full_outer);
+    let next = put(buffer, at, yes);
+    put(buffer, next, added)
+}
+
 // All numbers of an answer of the report, at the front.
 pub(crate) fn put_answer(
     buffer: &mut [u64],
@@ -163,7 +183,8 @@ pub(crate) fn put_answer(
     let holds = facts.holds;
     let fails = facts.fails;
     let unknown = facts.unknown;
-    put_tallies(buffer, next, holds, fails, unknown)
+    next = put_tallies(buffer, next, holds, fails, unknown);
+    put_added(buffer, next, facts.full_outer, facts.added as u64)
 }
 
 // The numbers of an answer of the direct reading, at the front.

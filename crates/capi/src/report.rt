@@ -7,8 +7,8 @@ ghost use mathlib.Core.Path.{_≡_};
 ghost use Rattle.capi.specs.Entries.{reportEntry};
 
 // How many numbers an answer of the report has: rows, tables, count of steps, status, the sets, five for each step, the count of
-// conditions, and three for each condition that there may be in all.
-pub const ANSWER: usize = 4 + TABLES + 5 * STEPS + 1 + 3 * CONDITIONS;
+// conditions, three for each condition that there may be in all, and two of a full outer join.
+pub const ANSWER: usize = 4 + TABLES + 5 * STEPS + 1 + 3 * CONDITIONS + 2;
 
 // What is returned where the buffer for the answer is too short.
 pub const NO_ROOM: u8 = 255;

@@ -40,7 +40,7 @@ due-rows : (text : Bytes) (r : Report) → readReport text ≡ some r → firstN
 due-rows text r read passed rows e = record {
   report = r;
   read = read;
-  reads = subst (Reads (database r) (joinTree (queryOf r))) e (report-reads r (read-well text r read) passed);
+  reads = subst (Reads (database r) (queryOf r .fullOuter) (joinTree (queryOf r))) e (report-reads r (read-well text r read) passed);
 }
 
 -- the rows of an answer of the engine

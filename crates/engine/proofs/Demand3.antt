@@ -11,7 +11,7 @@ use lib.ListN.{length}
 use Rattle.cells.specs.Row.{blankRow, Row}
 use Rattle.cells.specs.declared.condition.Condition.{Condition}
 use Rattle.rows.proofs.laws.ListLaws.{here}
-use Rattle.rows.specs.Nullification.{Blanking, planRows}
+use Rattle.rows.specs.Nullification.{Blanking}
 use Rattle.rows.specs.Due.{Reads}
 use Rattle.vocabulary.specs.Facts.{noFacts}
 use Rattle.vocabulary.specs.declared.step.Step.{Step}
@@ -26,16 +26,16 @@ use Rattle.text.specs.Lines.{Line}
 use Rattle.text.specs.Reading.{reportOf, textLines, readReport}
 use Rattle.text.proofs.laws.ReadingLaws.{report-well-read, read-report}
 use Rattle.text.specs.QueryLines.{queryLines}
-use Rattle.text.proofs.laws.QueryLinesLaws.{same-tables, same-joins, same-conditions}
+use Rattle.text.proofs.laws.QueryLinesLaws.{same-tables, same-joins, same-conditions, same-full-outer}
 use Rattle.plan.specs.Questions.{question9, orderQuestions, question5, noneOrBuilt}
-use Rattle.plan.specs.Plan.{groundOf, plainGround, planTree, blankings}
+use Rattle.plan.specs.Plan.{groundOf, plainGround, blankings}
 use Rattle.plan.specs.Full.{fullReport}
 use Rattle.plan.proofs.laws.QueryLaws.{Accepted}
 use Rattle.plan.specs.BlankingLists.{BlankingList}
 use Rattle.plan.proofs.laws.BlankingListLaws.{own-list}
 use Rattle.prepare.specs.Asking.{sharedQuestions, questionsOfReport, questionsOfDirect}
 use Rattle.prepare.proofs.laws.PassedLaws.{three-yes, report-accepted, few-rows}
-use Rattle.executor.specs.Runs.{directRows, runRows, reportRows, question11Direct, question11}
+use Rattle.executor.specs.Runs.{directRows, rowsBy, runRows, reportRows, question11Direct, question11}
 use Rattle.executor.proofs.laws.RunLaws.{direct-without-order, run-rows, plain-rows, direct-reads}
 use Rattle.engine.specs.Answers.{refused, answered, ReportAnswer, reportOutcome, directOutcome, directQuestions, reportQuestions, planAnswer, reportAnswer}
 use Rattle.engine.specs.Calls.{Lent, question1Direct, DirectCall, directAfter, directCall, question1, ReportCall, reportAfter, reportCall, cleared, written}
@@ -47,13 +47,13 @@ use Rattle.engine.proofs.laws.FullRows.{full-ok, full-few, full-nine, f
 -- the direct reading of texts with the same query is the same
 pub direct-same : (a b : List Line) → queryLines a ≡ queryLines b → directRows (reportOf a) ≡ directRows (reportOf b)
 direct-same a b same =
-    direct-without-order (reportOf a .tables) (reportOf a .joins) (reportOf a .conditions) (reportOf a .pairs) (reportOf b .pairs)
-    ∙ fields (same-tables a b same) (same-joins a b same) (same-conditions a b same)
+    direct-without-order (reportOf a .tables) (reportOf a .joins) (reportOf a .conditions) (reportOf a .fullOuter) (reportOf a .pairs) (reportOf b .pairs)
+    ∙ fields (same-tables a b same) (same-joins a b same) (same-conditions a b same) (same-full-outer a b same)
   where
-    fields : {t u : List Table} {i j : List Join} {c d : List Condition} → t ≡ u → i ≡ j → c ≡ d
-        → directRows (record { tables = t; joins = i; conditions = c; pairs = reportOf b .pairs })
-        ≡ directRows (record { tables = u; joins = j; conditions = d; pairs = reportOf b .pairs })
-    fields e f g = rw (e, f, g)
+    fields : {t u : List Table} {i j : List Join} {c d : List Condition} {x y : Bool} → t ≡ u → i ≡ j → c ≡ d → x ≡ y
+        → directRows (record { tables = t; joins = i; conditions = c; pairs = reportOf b .pairs; fullOuter = x })
+        ≡ directRows (record { tables = u; joins = j; conditions = d; pairs = reportOf b .pairs; fullOuter = y })
+    fields e f g h = rw (e, f, g, h)
 
 module _ (r : Report) (well : WellRead (queryOf r)) (accepted : firstNo sharedQuestions r ≡ none) where
   few : (t : ℕ) → rowCountIn r t ≤ blankRow
@@ -70,11 +70,11 @@ module _ (r : Report) (well : WellRead (queryOf r)) (accepted : firstNo sharedQu
 
   -- and the run of the plan without derivation
   pub plain-run-rows : T (question9 (queryOf r)) → (L : List (Blanking ℕ)) → BlankingList (plainGround (queryOf r)) L
-      → planRows (database r) (planTree (plainGround (queryOf r))) L ≡ directRows r
+      → rowsBy r (plainGround (queryOf r)) L ≡ directRows r
   plain-run-rows = plain-rows r ok few
 
   -- the tree read directly has each due row once and no other, in rising order
-  pub report-reads : Reads (database r) (joinTree (queryOf r)) (directRows r)
+  pub report-reads : Reads (database r) (queryOf r .fullOuter) (joinTree (queryOf r)) (directRows r)
   report-reads = direct-reads r ok few
 
 -- demand 3

@@ -1,23 +1,27 @@
 -- The proof of what stays of document 01's answers by the engine without derivation: a text that did not get 8 keeps its refusal or its S, U,
--- M and R lines; and no call answers 8, nor 10. Assumes nothing.
+-- M, F and R lines; and no call answers 8, nor 10. Assumes nothing.
 use mathlib.Core.Path.{_≡_, refl, sym, ap, ap₂, _∙_, subst}
 use mathlib.Core.Logic.{_≢_, inl, inr}
-use mathlib.Core.Bool.{Bool, true, false}
+use mathlib.Core.Bool.{Bool, true, false, _&&_}
 use mathlib.Core.List.{List, [], _∷_, _++_, map, zipWith}
 use mathlib.Core.Option.{Option, none, some}
 use Prim.Native.Nat.{ℕ, _≤_}
 use lib.Dec.{T}
 use lib.ListN.{length}
+use Rattle.cells.specs.Choice.{if_then_else_}
 use Rattle.cells.specs.Row.{Row, blankRow}
 use Rattle.cells.proofs.laws.BoolLaws.{clash, is-true}
 use Rattle.rows.specs.Lists.{_isIn_, keep, has, any}
 use Rattle.rows.proofs.laws.ListLaws.{here, keep-append, has-intro}
+use Rattle.rows.specs.Rows.{ordered}
+use Rattle.rows.specs.Trees.{rowsOf}
 use Rattle.rows.specs.Nullification.{Blanking, planRows}
 use Rattle.rows.specs.declared.kind.Kind.{Kind}
 use Rattle.rows.specs.declared.kind.Kind.the-variants.{Inner, Outer, Product}
 use Rattle.vocabulary.specs.Asking.{Question, firstNo, about, numbersOf}
 use Rattle.vocabulary.proofs.laws.AskingLaws.{thenNo, all-yes, first-about, first-append, no-then, none-then, asked-no, asked-yes, append-yes, first-yes, yes-aside}
 use Rattle.vocabulary.specs.Database.{database, rowCountIn, cellsOf}
+use Rattle.vocabulary.specs.Nodes.{joinTree}
 use Rattle.vocabulary.specs.Report.{Report, Query, Join, queryOf}
 use Rattle.vocabulary.specs.Steps.{bitsOf, kindNumber, pairStep, blankingStep, bestMatchStep}
 use Rattle.vocabulary.specs.declared.step.Step.{Step}
@@ -34,16 +38,16 @@ use Rattle.plan.proofs.laws.BlankingListLaws.{own-list}
 use Rattle.plan.proofs.laws.FormerLaws.{sets-kept, ground-kept, former-ten, former-rows}
 use Rattle.prepare.specs.Asking.{sharedQuestions, questionsOfReport, questionsOfDirect}
 use Rattle.prepare.proofs.laws.PassedLaws.{read-well, tree-accepted, few-rows}
-use Rattle.executor.specs.Runs.{results, withinLimit, directRows, question11Direct}
+use Rattle.executor.specs.Runs.{results, withinLimit, totalWithin, rightWithin, addedTo, ended, rowsBy, addedCount, withinBy, countsBy, directRows, question11Direct}
 use Rattle.executor.proofs.laws.DatabaseLaws.{lawful, lawful-names, database-width}
-use Rattle.executor.proofs.laws.RunLaws.{plain-rows}
+use Rattle.executor.proofs.laws.RunLaws.{plain-planned}
 use Rattle.engine.specs.Answers.{Outcome, refused, answered, outcomeFor, outcomeBy, reportQuestions, directQuestions, ReportAnswer}
 use Rattle.engine.specs.Calls.{reportCall, directCall}
 use Rattle.engine.specs.declared.answer.Answer.{Answer}
 use Rattle.engine.specs.declared.answer.Answer.the-variants.{Refused}
 use Rattle.engine.specs.Demand1.{Decided, askedOfReport, askedOfDirect}
-use Rattle.engine.specs.Plain.{plainShared, plainQuestions, plainDirectQuestions, plainCounts, plainRows, plainAnswer, plainOutcome, plainDirect}
-use Rattle.engine.specs.Former.{formerQuestions, formerDirectQuestions, formerCounts, formerSteps, formerRows, formerAnswer, formerOutcome, formerDirect, pairsIn, SameLines, Stays, refusedAs, answeredAs, LinesKept, NumberUnused}
+use Rattle.engine.specs.Plain.{plainShared, plainQuestions, plainDirectQuestions, plainRows, plainAnswer, plainOutcome, plainDirect}
+use Rattle.engine.specs.Former.{formerQuestions, formerDirectQuestions, formerSteps, formerRows, formerAnswer, formerOutcome, formerDirect, pairsIn, SameLines, Stays, refusedAs, answeredAs, LinesKept, NumberUnused}
 use Rattle.engine.proofs.Demand1.{report-decided, direct-decided, not-both}
 
 -- ---- the steps that M lines print
@@ -102,6 +106,13 @@ module _ (r : Report) (yes : firstNo plainShared r ≡ none) where
 pub plain-accepted : (r : Report) → WellRead (queryOf r) → firstNo plainShared r ≡ none → Accepted (queryOf r)
 plain-accepted r well passed = tree-accepted (queryOf r) well (plain-tree r passed)
 
+-- question 11 as each of the two engines asks it
+abbrev Eleven : Question Report
+Eleven = (11, λ (r : Report). withinBy r (formerGround (queryOf r)) (formerBlankings (formerGround (queryOf r))))
+
+abbrev PlainEleven : Question Report
+PlainEleven = (11, λ (r : Report). withinBy r (plainGround (queryOf r)) (blankings (plainGround (queryOf r))))
+
 -- ---- a report that passed question 8
 
 module _ (r : Report) (well : WellRead (queryOf r)) (yes : firstNo plainShared r ≡ none) (eight : T (question8 (queryOf r))) where
@@ -120,35 +131,42 @@ module _ (r : Report) (well : WellRead (queryOf r)) (yes : firstNo plainShared r
   unfolding orderQuestions about
   order-same = yes-aside ((9, λ (z : Report). question9 (queryOf z)) ∷ []) [] (10, λ (z : Report). question10 (formerGround (queryOf z))) r (is-true _ (former-ten q ok eight))
 
-  eleven-same : firstNo ((11, λ (z : Report). withinLimit z (results z (planTrees (formerGround (queryOf z))))) ∷ []) r
-      ≡ firstNo ((11, λ (z : Report). withinLimit z (results z (planTrees (plainGround (queryOf z))))) ∷ []) r
-  unfolding firstNo
-  eleven-same = ap (λ (g : Ground). firstNo ((11, λ (z : Report). withinLimit z (results z (planTrees g))) ∷ []) r) ground
-
   abbrev small : (t : ℕ) → rowCountIn r t ≤ blankRow
   small = few-rows r (plain-three r yes)
 
-  -- the plan with the blanking steps of document 01's rule has the rows of the tree read directly
-  former-run : T (question9 q) → planRows (database r) (planTree (plainGround q)) (formerBlankings (plainGround q)) ≡ directRows r
-  unfolding database directRows
-  former-run nine = former-rows q ok (lawful q (rowCountIn r) (cellsOf r) small) (database-width q (rowCountIn r) (cellsOf r) small)
-      (lawful-names q (rowCountIn r) (cellsOf r) small) nine
+  module _ (nine : T (question9 q)) where
+    -- the plan with the blanking steps of document 01's rule has the rows of the plan with all
+    plans-same : planRows (database r) (planTree (formerGround q)) (formerBlankings (formerGround q)) ≡ planRows (database r) (planTree (plainGround q)) (blankings (plainGround q))
+    plans-same =
+        ap (λ (g : Ground). planRows (database r) (planTree g) (formerBlankings g)) ground ∙ tree
+        ∙ sym (plain-planned r ok small nine (blankings (plainGround q)) (own-list (plainGround q)))
+      where
+        tree : planRows (database r) (planTree (plainGround q)) (formerBlankings (plainGround q)) ≡ ordered (rowsOf (database r) (joinTree q))
+        unfolding database
+        tree = former-rows q ok (lawful q (rowCountIn r) (cellsOf r) small) (database-width q (rowCountIn r) (cellsOf r) small)
+            (lawful-names q (rowCountIn r) (cellsOf r) small) nine
 
-  -- its answer has the same S, U, M and R lines
-  lines-same : T (question9 q) → SameLines (formerAnswer r) (plainAnswer r)
-  unfolding formerAnswer plainAnswer formerSteps formerCounts formerRows plainCounts stepsOf plainRows
-  lines-same nine = record {
-    sets = ap (map bitsOf) (sets-kept q ok eight);
-    tallies = refl;
-    pairs = pairs-first (plannedJoins (formerGround q)) (counts (formerGround q)) (formerBlankings (formerGround q))
-        ∙ ap (λ (g : Ground). zipWith pairStep (plannedJoins g) (counts g)) ground
-        ∙ sym (pairs-first (plannedJoins (plainGround q)) (counts (plainGround q)) (blankings (plainGround q)));
-    rows = ap (λ (g : Ground). planRows (database r) (planTree g) (formerBlankings g)) ground ∙ former-run nine
-        ∙ sym (plain-rows r ok small nine (blankings (plainGround q)) (own-list (plainGround q)));
-  }
-    where
-      counts : Ground → List ℕ
-      counts g = map (λ (rows : List Row). length rows) (results r (planTrees g))
+    eleven-same : firstNo (Eleven ∷ []) r ≡ firstNo (PlainEleven ∷ []) r
+    unfolding firstNo withinBy rowsBy
+    eleven-same =
+        ap (λ (b : Bool). elim b as (λ z. Option ℕ) [ true ↦ none | false ↦ some 11 ])
+        (ap₂ (λ (g : Ground) (rows : List Row). withinLimit r (results r (planTrees g)) && rightWithin r && totalWithin r (ended r rows)) ground plans-same)
+
+    -- its answer has the same S, U, M, F and R lines
+    lines-same : SameLines (formerAnswer r) (plainAnswer r)
+    unfolding formerAnswer plainAnswer formerSteps formerRows stepsOf plainRows rowsBy addedCount countsBy
+    lines-same = record {
+      sets = ap (map bitsOf) (sets-kept q ok eight);
+      tallies = refl;
+      pairs = pairs-first (plannedJoins (formerGround q)) (counts (formerGround q)) (formerBlankings (formerGround q))
+          ∙ ap (λ (g : Ground). zipWith pairStep (plannedJoins g) (counts g)) ground
+          ∙ sym (pairs-first (plannedJoins (plainGround q)) (counts (plainGround q)) (blankings (plainGround q)));
+      added = ap (λ (rows : List Row). if q .fullOuter then some (length (addedTo r rows)) else none) plans-same;
+      rows = ap (ended r) plans-same;
+    }
+      where
+        counts : Ground → List ℕ
+        counts g = map (λ (rows : List Row). length rows) (results r (planTrees g))
 
 -- ---- a text
 
@@ -163,9 +181,6 @@ module _ (r : Report) (x y z : List (Question Report)) where
 -- what document 01's engine was asked between the questions of both runs and question 11
 abbrev behind : List (Question Report)
 behind = about queryOf ((8, λ (q : Query). question8 q) ∷ (9, λ (q : Query). question9 q) ∷ (10, λ (q : Query). question10 (formerGround q)) ∷ [])
-
-abbrev Eleven : Question Report
-Eleven = (11, λ (r : Report). withinLimit r (results r (planTrees (formerGround (queryOf r)))))
 
 module _ (r : Report) where
   -- question 8 is the first of them
@@ -185,6 +200,17 @@ module _ (r : Report) where
       let (a, f) = first-yes _ _ r e in
       (a, first-yes _ _ r f .0)
 
+  -- where the order is not turned down, question 9 is answered yes
+  nine-yes : firstNo (about queryOf orderQuestions) r ≡ none → T (question9 (queryOf r))
+  unfolding orderQuestions
+  nine-yes e = all-yes orderQuestions (queryOf r) (sym (first-about queryOf orderQuestions r) ∙ e) (9, λ (q : Query). question9 q) (here refl)
+
+  -- what is asked behind a question that says no makes no difference
+  then-same : (o : Option ℕ) {x y : Option ℕ} → (o ≡ none → x ≡ y) → thenNo o x ≡ thenNo o y
+  unfolding thenNo
+  then-same none h = h refl
+  then-same (some n) h = refl
+
   module _ (well : WellRead (queryOf r)) where
     -- where 8 was not the first no, the first no is the same
     pub report-same : firstNo formerQuestions r ≢ some 8 → firstNo formerQuestions r ≡ firstNo plainQuestions r
@@ -193,16 +219,18 @@ module _ (r : Report) where
       where
         asked : firstNo plainShared r ≡ none → (b : Bool) → question8 (queryOf r) ≡ b → firstNo formerQuestions r ≡ firstNo plainQuestions r
         asked e true f =
+            let eight : T (question8 (queryOf r)) = subst T (sym f) tt in
             late r plainShared behind (Eleven ∷ []) e
-            ∙ ap₂ thenNo (eight-yes f ∙ order-same r well e (subst T (sym f) tt)) (eleven-same r well e (subst T (sym f) tt))
-            ∙ sym (late r plainShared (about queryOf orderQuestions) ((11, λ (z : Report). withinLimit z (results z (planTrees (plainGround (queryOf z))))) ∷ []) e)
+            ∙ ap (λ (o : Option ℕ). thenNo o (firstNo (Eleven ∷ []) r)) (eight-yes f ∙ order-same r well e eight)
+            ∙ then-same (firstNo (about queryOf orderQuestions) r) (λ g. eleven-same r well e eight (nine-yes g))
+            ∙ sym (late r plainShared (about queryOf orderQuestions) (PlainEleven ∷ []) e)
         asked e false f = absurd (n (late r plainShared behind (Eleven ∷ []) e
             ∙ ap (λ (o : Option ℕ). thenNo o (firstNo (Eleven ∷ []) r)) (eight-no f)))
 
         shared : (o : Option ℕ) → firstNo plainShared r ≡ o → firstNo formerQuestions r ≡ firstNo plainQuestions r
         shared none e = asked e (question8 (queryOf r)) refl
         shared (some k) e = early r plainShared behind (Eleven ∷ []) k e
-            ∙ sym (early r plainShared (about queryOf orderQuestions) ((11, λ (z : Report). withinLimit z (results z (planTrees (plainGround (queryOf z))))) ∷ []) k e)
+            ∙ sym (early r plainShared (about queryOf orderQuestions) (PlainEleven ∷ []) k e)
 
     answer-same : firstNo formerQuestions r ≡ none → SameLines (formerAnswer r) (plainAnswer r)
     unfolding formerQuestions

@@ -15,7 +15,7 @@ use Rattle.text.specs.Reading.{readReport}
 use Rattle.plan.specs.Plan.{closedSets}
 use Rattle.plan.specs.Full.{fullReport}
 use Rattle.prepare.specs.Asking.{questionsOfReport, questionsOfDirect}
-use Rattle.executor.specs.Runs.{question11, question11Direct, reportRows, reportSteps, directRows}
+use Rattle.executor.specs.Runs.{question11, question11Direct, reportRows, reportSteps, reportAdded, directRows}
 
 -- the number of the question that turned the text down, or an answer. Specification 1.7
 pub data Outcome (A : Type 0) : Type 0 where
@@ -40,16 +40,24 @@ outcomeFor questions answer (some r) = elim (firstNo questions r) [ some n ↦ r
 unfoldable pub outcomeBy : {A : Type 0} → List (Question Report) → (Report → A) → Bytes → Outcome A
 outcomeBy questions answer text = outcomeFor questions answer (readReport text)
 
--- what an answer of the engine holds: each table's set as bits, each condition's counts, the plan, and the rows. Specification 10.7
+-- what an answer of the engine holds: each table's set as bits, each condition's counts, the plan, how many rows of the right side were added
+-- where the last join is a full outer one, and the rows. Specification 10.7, 10.14
 pub record ReportAnswer : Type 0 where
   pub sets : List ℕ
   pub tallies : List Tally
   pub steps : List Step
+  pub added : Option ℕ
   pub rows : List Row
 
 -- the answer of a report, given all its conditions, by its plan. Specification 10.7
 unfoldable pub planAnswer : Report → ReportAnswer
-planAnswer r = record { sets = map bitsOf (closedSets (queryOf r)); tallies = tallies r; steps = reportSteps r; rows = reportRows r }
+planAnswer r = record {
+  sets = map bitsOf (closedSets (queryOf r));
+  tallies = tallies r;
+  steps = reportSteps r;
+  added = reportAdded r;
+  rows = reportRows r;
+}
 
 -- the answer of a text's report: of the report with its derived conditions. Specification 6.9, 10.7
 unfoldable pub reportAnswer : Report → ReportAnswer

@@ -3,7 +3,7 @@
 use mathlib.Core.Bool.{Bool, _&&_, true, false}
 use mathlib.Core.List.{List, _++_, map, flatMap, []}
 use Prim.Native.Nat.{ℕ, _-_}
-use mathlib.Core.Option.{none, some}
+use mathlib.Core.Option.{Option, none, some}
 use lib.Dec.{leb}
 use lib.IntN.{ℤ, pos}
 use lib.ListN.{length, drop, replicate}
@@ -61,24 +61,37 @@ pub record ReportCall : Type 0 where
   pub lent : Lent
   pub steps : List Step
 
--- so many tables with these sets, and so many conditions with these counts: the three counts of a condition stand in three lists. `factsOf`
--- has them of an answer, and what the code hands over has them of work space. Specification 10.7
-abbrev pub factsWith : ℕ → List ℕ → ℕ → List Tally → Facts
-factsWith tables sets conditions ts = record {
+-- so many tables with these sets, and so many conditions with these counts: the three counts of a condition stand in three lists; whether the
+-- last join is a full outer one, and how many rows were added. `factsOf` has them of an answer, and what the code hands over has them of work
+-- space. Specification 10.7, 10.14
+abbrev pub factsWith : ℕ → List ℕ → ℕ → List Tally → Bool → ℕ → Facts
+factsWith tables sets conditions ts fullOuter added = record {
   tables = tables;
   sets = sets;
   conditions = conditions;
   holds = map (λ (t : Tally). t .holds) ts;
   fails = map (λ (t : Tally). t .fails) ts;
   unknown = map (λ (t : Tally). t .unknown) ts;
+  «full_outer» = fullOuter;
+  added = added;
 }
 
+-- whether rows were counted that are added, and how many; 0 where the last join is no full outer one. Specification 10.14
+unfoldable pub counted : Option ℕ → Bool
+counted none = false
+counted (some n) = true
+
+-- Specification 10.14
+unfoldable pub countOr0 : Option ℕ → ℕ
+countOr0 none = 0
+countOr0 (some n) = n
+
 -- what stands beside an answer: how many tables there are, and each one's set as bits; how many conditions there are, and each one's
--- counts; of a table or a condition that there is not, none. Specification 10.7
+-- counts; of a table or a condition that there is not, none; and how many rows were added for a full outer join. Specification 10.7, 10.14
 unfoldable pub factsOf : ReportAnswer → Facts
 factsOf a =
     factsWith (length (a .sets)) (a .sets ++ replicate (mostTables - length (a .sets)) 0) (length (a .tallies))
-    (a .tallies ++ replicate (mostConditions - length (a .tallies)) noTally)
+    (a .tallies ++ replicate (mostConditions - length (a .tallies)) noTally) (counted (a .added)) (countOr0 (a .added))
 
 -- a call that question 1 did not turn down; after a refusal there is no table, no condition and no step. Specification 10.2, 10.7
 unfoldable pub reportAfter : Outcome ReportAnswer → Lent → List Step → ReportCall

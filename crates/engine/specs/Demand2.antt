@@ -16,11 +16,12 @@ use Rattle.text.specs.Reading.{readReport}
 use Rattle.engine.specs.Calls.{Lent, written, ReportCall, reportCall, DirectCall, directCall}
 use Rattle.engine.specs.declared.answer.Answer.the-variants.{Rows}
 
--- the rows are those of the tree that the text says: each due row once, no other, in rising order. Specification 1.8
+-- the rows are those of the tree that the text says, whose last join may be a full outer one: each due row once, no other, in rising order
+-- Specification 1.8
 pub record DueRows (text : Bytes) (rows : List Row) : Type 0 where
   pub report : Report
   pub read : readReport text ≡ some report
-  pub reads : Reads (database report) (joinTree (queryOf report)) rows
+  pub reads : Reads (database report) (queryOf report .fullOuter) (joinTree (queryOf report)) rows
 
 -- n rows are written at the front of a result buffer, the rest of which keeps its contents: the rows of the text's tree. Specification 1.8, 10.5
 pub record DueWritten (text : Bytes) (n : ℕ) (before after : List ℕ) : Type 0 where

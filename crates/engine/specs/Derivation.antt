@@ -11,20 +11,19 @@ use Rattle.cells.specs.Limits.{mostConditions}
 use Rattle.cells.specs.Condition.{Cells, namesOf, trueIn}
 use Rattle.cells.specs.Row.{Row}
 use Rattle.rows.specs.Lists.{_isIn_}
-use Rattle.rows.specs.Nullification.{Blanking, planRows}
+use Rattle.rows.specs.Nullification.{Blanking}
 use Rattle.vocabulary.specs.Asking.{firstNo}
-use Rattle.vocabulary.specs.Database.{database}
 use Rattle.vocabulary.specs.Report.{Query, Report, queryOf, conditionAt}
 use Rattle.text.specs.Bytes.{Bytes}
 use Rattle.text.specs.Lines.{Line}
 use Rattle.text.specs.Reading.{readReport, reportOf}
 use Rattle.links.specs.Links.{TableColumn, linksOf, LinkChain, chained, derivedLinks, closeSet}
 use Rattle.plan.specs.Sets.{blankingSets, setOf}
-use Rattle.plan.specs.Plan.{closedSets, groundOf, plainGround, planTree}
+use Rattle.plan.specs.Plan.{closedSets, groundOf, plainGround}
 use Rattle.plan.specs.Full.{fullQuery, fullReport}
 use Rattle.plan.specs.Questions.{treeQuestions, orderQuestions, question13}
 use Rattle.plan.specs.BlankingLists.{BlankingList}
-use Rattle.executor.specs.Runs.{runRows}
+use Rattle.executor.specs.Runs.{rowsBy, runRows}
 use Rattle.engine.specs.Answers.{refused, answered, ReportAnswer, reportOutcome, directOutcome}
 use Rattle.engine.specs.Plain.{plainOutcome, plainDirect}
 use Rattle.engine.specs.Demand3.{SameQuery}
@@ -59,7 +58,7 @@ RowsAsWithout =
     × ((first second : Bytes) (a b : List Line) → SameQuery first second a b → firstNo orderQuestions (queryOf (reportOf a)) ≡ none
     → (L : List (Blanking ℕ)) → BlankingList (groundOf (queryOf (fullReport (reportOf b)))) L
     → (M : List (Blanking ℕ)) → BlankingList (plainGround (queryOf (reportOf a))) M
-    → runRows (fullReport (reportOf b)) L ≡ planRows (database (reportOf a)) (planTree (plainGround (queryOf (reportOf a)))) M)
+    → runRows (fullReport (reportOf b)) L ≡ rowsBy (reportOf a) (plainGround (queryOf (reportOf a))) M)
 
 -- a direct reading that 13 does not turn down is the one without derivation. Specification 6.12
 abbrev pub DirectAsWithout : Type 0

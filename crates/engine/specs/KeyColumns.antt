@@ -36,6 +36,7 @@ withoutKeys r = record {
   joins = r .joins;
   conditions = r .conditions;
   pairs = r .pairs;
+  fullOuter = r .fullOuter;
 }
 
 -- a report that a run answers is answered alike without its key columns, by the run's questions and what it answers. Specification 2.15

@@ -5,6 +5,7 @@ use joins::join::Joined;
 use prepare::accept::AcceptOutcome;
 use vocabulary::query::StoredQuery;
 ghost use mathlib.Core.Path.{_≡_};
+ghost use mathlib.Core.Bool.{true};
 ghost use Prim.Native.Nat.{_≤_};
 ghost use lib.ListN.{length};
 ghost use Rattle.cells.specs.Limits.{cellRoom, workRoom, resultRoom};
@@ -16,7 +17,8 @@ ghost use Rattle.engine.specs.inner.Gave.{Gave, TreeRead, ifRows};
 
 // Question 11 of a query, and its rows.
 fn read_tree(q: StoredQuery, cells: &[i32], work: &mut [u16], result: &mut [u16]) -> Answer
-    requires { ⌜ Readable q × (1 ≤ q .«table_count») × (workRoom ≤ length (now work)) × (resultRoom ≤ length (now result)) ⌝ }
+    requires { ⌜ Readable q × (1 ≤ q .«table_count») × (q .«full_outer» ≡ true → 1 ≤ q .«join_count») × (workRoom ≤ length (now work))
+        × (resultRoom ≤ length (now result)) ⌝ }
     ensures { λ r. ⌜ TreeRead (workspace (now (cells .entry)) (q .layout) (q .conditions)) q (now (result .entry)) (now (result .exit)) r ⌝ }
 {
     let r = executor::direct::direct(cells, q, work, result);

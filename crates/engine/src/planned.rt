@@ -85,10 +85,10 @@ fn answered(rows: usize, facts: Facts, plan: Plan) -> Concluded
     }
 }
 
-// What stands beside the rows of a query: its sets, and the counts of its conditions.
-fn facts_of(cells: &[i32], q: StoredQuery, sets: [u64; TABLES]) -> Facts
+// What stands beside the rows of a query: its sets, the counts of its conditions, and how many rows were added.
+fn facts_of(cells: &[i32], q: StoredQuery, sets: [u64; TABLES], added: usize) -> Facts
     requires { ⌜ QueryWithin q ⌝ }
-    ensures { λ r. ⌜ r ≡ factsIn q sets (now (cells .entry)) ⌝ }
+    ensures { λ r. ⌜ r ≡ factsIn q sets (now (cells .entry)) added ⌝ }
 {
     let layout = q.layout;
     let conditions = q.conditions;
@@ -104,12 +104,20 @@ fn facts_of(cells: &[i32], q: StoredQuery, sets: [u64; TABLES]) -> Facts
         holds,
         fails,
         unknown,
+        full_outer: q.full_outer,
+        added,
     }
 }
 
-// What a run hands over: the refusal where a question turned the text down or a pair has too many rows; or the rows in the result,
+// What a run hands over: the refusal where a question turned the text down or a result has too many rows; or the rows in the result,
 // how many they are, what stands beside them, and the plan with its counts.
-fn hand_over(cells: &[i32], work: &[u16], result: &mut [u16], p: Prepared, r: State) -> Concluded
+fn hand_over(
+    cells: &[i32],
+    work: &mut [u16],
+    result: &mut [u16],
+    p: Prepared,
+    r: State,
+) -> Concluded
     requires { ⌜ Within p ⌝ }
     ensures { λ x. ⌜ Ends p r (now (cells .entry)) (now (work .entry)) (now (result .entry)) (now (result .exit)) x ⌝ }
 {
@@ -121,10 +129,11 @@ fn hand_over(cells: &[i32], work: &[u16], result: &mut [u16], p: Prepared, r: St
     let list = p.plan;
     let pairs = q.table_count as usize - 1;
     let counts = r.counts;
-    let found = step_list::last::finish_run(work, q, r, result);
+    let end = step_list::last::finish_run(cells, work, q, r, result);
+    let found = end.joined;
     match found {
         Joined::Rows(n) => {
-            let facts = facts_of(cells, q, sets);
+            let facts = facts_of(cells, q, sets, end.added);
             answered(n, facts, with_counts(list, counts, pairs))
         }
         Joined::TooMany => turned_down(11),

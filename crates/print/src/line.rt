@@ -8,10 +8,11 @@ ghost use Prim.Native.Nat.{_+_, _*_, _<_, _≤_};
 ghost use lib.ListN.{length, take, drop};
 ghost use Rattle.cells.specs.Limits.{mostTables};
 ghost use Rattle.text.specs.Bytes.{bytes};
-ghost use Rattle.text.specs.Print.{bitNumbers, printFields, printNumber, printTally, kindLetter, printStep, printRow, printRefusal};
+ghost use Rattle.text.specs.Print.{bitNumbers, printFields, printNumber, printTally, kindLetter, printStep, printAdded, printRow, printRefusal};
 ghost use Rattle.print.specs.inner.Output.{Written};
-ghost use Rattle.print.specs.inner.Room.{fieldRoom, endRoom, tableRoom, tallyRoom, kindRoom, bestMatchRoom, stepRoom, rowRoom, refusalRoom};
+ghost use Rattle.print.specs.inner.Room.{fieldRoom, endRoom, tableRoom, tallyRoom, kindRoom, bestMatchRoom, stepRoom, addedRoom, rowRoom, refusalRoom};
 ghost use Rattle.print.specs.inner.Fields.{printedField, entryField};
+ghost use Rattle.print.specs.inner.Printed.{addedIn};
 
 // The end of a line: a number, the numbers of the conditions, and the line feed.
 fn write_end(out: &mut [u8], at: usize, number: u64, conditions: u64) -> usize
@@ -105,6 +106,19 @@ pub(crate) fn write_step(out: &mut [u8], at: usize, s: Step) -> usize
         return write_table(out, at, b'B', s.first as u64, s.conditions);
     }
     write_best_match(out, at)
+}
+
+// The line of the rows that were added, where the last join is a full outer one; else there is none.
+pub(crate) fn write_added(out: &mut [u8], at: usize, full_outer: bool, added: u64) -> usize
+    requires { ⌜ at + addedRoom ≤ length (now out) ⌝ }
+    ensures { λ r. ⌜ Written (now (out .entry)) at (printAdded (addedIn full_outer added)) addedRoom (now (out .exit)) r ⌝ }
+{
+    if !full_outer {
+        return at;
+    }
+    let mut next = output::put(out, at, b'F');
+    next = field::write_number(out, next, added);
+    output::put(out, next, field::LINE_FEED)
 }
 
 // The entries of the row that stands at `from`.

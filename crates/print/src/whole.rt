@@ -53,8 +53,8 @@ fn counts_fit(facts: Facts, steps: usize, rows: usize, numbers: usize) -> bool
     rows_fit(facts.tables, rows, numbers)
 }
 
-// The lines of an answer of the engine from a place on: each table's set, each condition's counts, the steps, and the rows that stand
-// in `result`.
+// The lines of an answer of the engine from a place on: each table's set, each condition's counts, the steps, the count of rows that were
+// added, and the rows that stand in `result`.
 fn write_report(
     out: &mut [u8],
     at: usize,
@@ -75,6 +75,7 @@ fn write_report(
     let unknown = facts.unknown;
     next = lines::write_tallies(out, next, holds, fails, unknown, facts.conditions);
     next = lines::write_steps(out, next, steps, count);
+    next = line::write_added(out, next, facts.full_outer, facts.added as u64);
     lines::write_rows(out, next, result, rows, facts.tables)
 }
 

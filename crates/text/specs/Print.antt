@@ -1,6 +1,7 @@
 -- The lines of the print: document 01, "The whole print of one report". Specification 11.2. Assumes nothing.
 use mathlib.Core.Bool.{true, false}
 use mathlib.Core.List.{[], _∷_, _++_, List, map}
+use mathlib.Core.Option.{Option, none, some}
 use Prim.Native.Nat.{ℕ, zero, suc, _+_, _/_, _%_}
 use lib.Dec.{leb, eqb}
 use lib.ListN.{getD}
@@ -65,6 +66,11 @@ printStep s =
     ++ printFields (kindLetter (s .kind) ∷ map printNumber (s .first ∷ s .second ∷ s .rows ∷ bitNumbers (s .conditions)))
     else if eqb (s .kind) 4 then bytes "B" ++ printFields (map printNumber (s .first ∷ bitNumbers (s .conditions)))
     else bytes "Z" ++ printFields []
+
+-- "A line `F`, count added", where the last join is a full outer one (document 02, item 7). Specification 11.10
+unfoldable pub printAdded : Option ℕ → Bytes
+printAdded none = []
+printAdded (some n) = bytes "F" ++ printFields (printNumber n ∷ [])
 
 -- "R: row". Specification 11.2
 unfoldable pub printRow : Row → Bytes

@@ -15,7 +15,7 @@ use Rattle.print.specs.inner.Output.{Written}
 use Rattle.print.proofs.laws.OutputLaws.{written-whole}
 use Rattle.print.proofs.laws.Loops.{upTo, upTo-flatMap, flatMap-one}
 use Rattle.engine.specs.declared.answer.Answer.{Answer}
-use Rattle.capi.specs.Numbers.{stepNumbers, tallyNumbers, atFront, statusOf, rowNumber, answerNumbers}
+use Rattle.capi.specs.Numbers.{flagNumber, stepNumbers, tallyNumbers, atFront, statusOf, rowNumber, answerNumbers}
 
 -- each number by itself
 abbrev pub one : ℕ → List ℕ
@@ -54,6 +54,7 @@ front-written {w} {b = b} {r = r} h p =
 -- the parts of an answer, one behind the other
 pub answer-parts : (a : Answer) (f : Facts) (count : ℕ) (steps : List Step) {rows status : ℕ} → rows ≡ rowNumber a → status ≡ statusOf a
     → (rows ∷ f .tables ∷ count ∷ status ∷ []) ++ f .sets ++ flatMap stepNumbers steps ++ (f .conditions ∷ []) ++ flatMap tallyNumbers (map (tallyFrom (f .holds) (f .fails) (f .unknown)) (range 0 mostConditions))
+    ++ (flagNumber (f .«full_outer») ∷ f .added ∷ [])
     ≡ answerNumbers a f count steps
 unfolding answerNumbers firstTallies
 answer-parts a f count steps e g = rw (e, g)

@@ -1,5 +1,6 @@
 -- An answer has few rows, each with a number for every table, and its plan has at most sixteen steps. Assumes nothing.
 use mathlib.Core.Path.{_≡_, ap, _∙_, refl, sym, subst}
+use mathlib.Core.Logic.{⊎-elim}
 use mathlib.Core.Bool.{Bool, true, false, not, _&&_}
 use mathlib.Core.List.{List, [], _∷_, zipWith, _++_, map}
 use mathlib.Core.Option.{none, Option, some}
@@ -12,11 +13,13 @@ use Rattle.cells.specs.Choice.{if_then_else_}
 use Rattle.cells.specs.Limits.{mostTables, mostConditions, mostRows, mostCells, mostSteps}
 use Rattle.cells.specs.Row.{Row, blankRow}
 use Rattle.rows.specs.Lists.{any, distinct, keep, range, all, _isIn_}
-use Rattle.rows.proofs.laws.ListLaws.{keep-fewer, length-range, here}
-use Rattle.rows.specs.Rows.{same, whollyBlank, dominated, bestMatch}
+use Rattle.rows.proofs.laws.ListLaws.{keep-fewer, keep-elim, append-elim, length-range, here}
+use Rattle.rows.proofs.laws.SortLaws.{sort-elim}
+use Rattle.rows.specs.Rows.{same, before, ordered, whollyBlank, dominated, bestMatch}
 use Rattle.rows.proofs.laws.RowLaws.{length-ordered}
-use Rattle.rows.proofs.laws.ShapesLaws.{Lawful}
-use Rattle.rows.specs.Trees.{Database, rowsOf}
+use Rattle.rows.proofs.laws.ShapesLaws.{Lawful, Shaped}
+use Rattle.rows.specs.Trees.{Database, Tree, leaf, join, tablesUnder, rowsOf}
+use Rattle.rows.specs.FullOuter.{added, rightSide}
 use Rattle.rows.proofs.laws.TreeLaws.{rows-valid}
 use Rattle.rows.specs.Nullification.{Blanking, nullifyAll, finished, planRows}
 use Rattle.rows.proofs.laws.NullificationLaws.{nullifyRow, nullifyAll-map}
@@ -44,12 +47,13 @@ use Rattle.prepare.proofs.laws.PassedLaws.{three-yes, shared-passed, query-thir
 use Rattle.prepare.proofs.laws.FullStanding.{full-report, full-rows}
 use Rattle.executor.proofs.laws.DatabaseLaws.{lawful, lawful-names, database-width}
 use Rattle.executor.proofs.laws.LimitLaws.{within-small, results-whole}
-use Rattle.executor.proofs.laws.Padding.{finished-wide}
-use Rattle.executor.specs.Runs.{results, withinLimit, directRows, question11Direct, runRows, reportRows, pairCounts, reportSteps, question11}
+use Rattle.executor.proofs.laws.Padding.{Wide, finished-wide}
+use Rattle.executor.proofs.laws.RunLaws.{ended-whole}
+use Rattle.executor.specs.Runs.{withAdded, results, withinLimit, totalWithin, rightWithin, addedTo, ended, directRows, question11Direct, rowsBy, addedCount, withinBy, runRows, reportRows, reportAdded, pairCounts, reportSteps, question11}
 use Rattle.engine.specs.Answers.{answered, directQuestions, reportQuestions, ReportAnswer, planAnswer, reportAnswer, reportOutcome, directOutcome}
 use Rattle.engine.proofs.laws.AnswerLaws.{answered-report}
 use Rattle.engine.proofs.laws.FullRows.{full-ok, full-nine}
-use Rattle.engine.specs.Calls.{tableCountOf}
+use Rattle.engine.specs.Calls.{countOr0, tableCountOf}
 
 -- best match adds no row
 distinct-fewer : {A : Type 0} (same : A → A → Bool) (l : List A) → length (distinct same l) ≤ length l
@@ -109,6 +113,32 @@ plan-steps q counts =
       best-one (blankings (groundOf q)),
     )
 
+-- ---- the end of a run
+
+right-shaped : {D : Database ℕ} (laws : Lawful D) (E : Tree ℕ) → Shaped laws E → Shaped laws (rightSide E)
+unfolding rightSide
+right-shaped laws (leaf t) s = s
+right-shaped laws (join k C A B) s = s .1
+
+-- the rows at the end are few where the total is, and have an entry for each table
+ended-few : (r : Report) (rows : List Row) → length rows ≤ mostRows → T (totalWithin r (ended r rows)) → length (ended r rows) ≤ mostRows
+unfolding totalWithin ended
+ended-few r rows h t = go (queryOf r .fullOuter) t
+  where
+    go : (b : Bool) → T (if b then leb (length (if b then withAdded (database r) (joinTree (queryOf r)) rows else rows)) mostRows else true)
+        → length (if b then withAdded (database r) (joinTree (queryOf r)) rows else rows) ≤ mostRows
+    go true x = leb-yes x
+    go false x = h
+
+ended-each : (r : Report) (n : ℕ) (rows : List Row) → Wide n rows → Wide n (rowsOf (database r) (rightSide (joinTree (queryOf r)))) → Wide n (ended r rows)
+unfolding ended
+ended-each r n rows w v = go (queryOf r .fullOuter)
+  where
+    go : (b : Bool) → Wide n (if b then withAdded (database r) (joinTree (queryOf r)) rows else rows)
+    unfolding withAdded ordered added
+    go true row m = ⊎-elim (w row) (λ h. v row (keep-elim _ (rowsOf (database r) (rightSide (joinTree (queryOf r)))) h .0)) (append-elim rows (sort-elim before _ m))
+    go false = w
+
 module _ (r : Report) (well : WellRead (queryOf r)) (accepted : firstNo sharedQuestions r ≡ none) where
   abbrev q : Query
   q = queryOf r
@@ -142,18 +172,31 @@ module _ (r : Report) (well : WellRead (queryOf r)) (accepted : firstNo sharedQu
 
   -- ---- the direct reading
 
+  tree : Shaped laws (joinTree q)
+  tree = query-shaped q ok laws (database-width q (rowCountIn r) (cellsOf r) small) (lawful-names q (rowCountIn r) (cellsOf r) small)
+
+  -- the rows of the tree read as with a left outer join
+  abbrev read : List Row
+  read = ordered (rowsOf (database r) (joinTree q))
+
   pub direct-few : T (question11Direct r) → length (directRows r) ≤ mostRows
-  unfolding question11Direct withinLimit results joinTree joinTrees directRows
+  unfolding question11Direct withinLimit results joinTree joinTrees
   direct-few h =
-      let y = within-small (database r) few-each (joinTree q) (results-whole (database r) few-each q (query-matched q ok) (query-built q ok) h) in
+      let (a, b) = and-yes (all (λ (rows : List Row). leb (length rows) mostRows) (results r (joinTrees q))) (totalWithin r (directRows r)) h in
+      let y = within-small (database r) few-each (joinTree q) (results-whole (database r) few-each q (query-matched q ok) (query-built q ok) a) in
       let z : length (rowsOf (database r) (joinTree q)) ≤ mostRows = leb-yes y in
-      omega (arith, length-ordered (rowsOf (database r) (joinTree q)), z)
+      let e : ended r read ≡ directRows r = ended-whole r ok small read refl in
+      subst (λ (l : List Row). length l ≤ mostRows) e
+      (ended-few r read (omega (arith, length-ordered (rowsOf (database r) (joinTree q)), z)) (subst (λ (l : List Row). T (totalWithin r l)) (sym e) b))
 
   pub direct-wide : (row : Row) → row isIn directRows r → length row ≡ tableCount q
-  unfolding directRows finished database databaseOf
-  direct-wide = finished-wide (database r) (tableCount q) [] (rowsOf (database r) (joinTree q))
-      (λ row m. rows-valid laws (joinTree q)
-      (query-shaped q ok laws (database-width q (rowCountIn r) (cellsOf r) small) (lawful-names q (rowCountIn r) (cellsOf r) small)) row m .len)
+  unfolding finished
+  direct-wide = subst (Wide (tableCount q)) (ended-whole r ok small read refl)
+      (ended-each r (tableCount q) read (finished-wide (database r) (tableCount q) [] (rowsOf (database r) (joinTree q)) (tree-wide (joinTree q) tree)) (tree-wide (rightSide (joinTree q)) (right-shaped laws (joinTree q) tree)))
+    where
+      tree-wide : (E : Tree ℕ) → Shaped laws E → Wide (tableCount q) (rowsOf (database r) E)
+      unfolding database databaseOf
+      tree-wide E s row m = rows-valid laws E s row m .len
 
 -- ---- the plan of a report, given all its conditions
 
@@ -185,17 +228,48 @@ module _ (r : Report) (ok : Accepted (queryOf r)) (few-tables : tableCount (quer
       omega (arith, plan-steps p (pairCounts r), e, few-tables)
 
   pub report-few : T (question11 r) → length (reportRows r) ≤ mostRows
-  unfolding question11 withinLimit results planTree planTrees reportRows runRows planRows
+  unfolding question11 withinBy withinLimit results planTree planTrees reportRows runRows rowsBy planRows
   report-few h =
-      let y = within-small (database r) each-few (planTree (groundOf p)) (results-whole (database r) each-few p (plan-matched (groundOf p)) built h) in
-      let z : length (rowsOf (database r) (planTree (groundOf p))) ≤ mostRows = leb-yes y in
-      omega (arith, finished-fewer (database r) (blankings (groundOf p)) (rowsOf (database r) (planTree (groundOf p))), z)
+      let g = groundOf p in
+      let rows = finished (database r) (blankings g) (rowsOf (database r) (planTree g)) in
+      let (a, c) = and-yes (all (λ (rows : List Row). leb (length rows) mostRows) (results r (planTrees g)) && rightWithin r) (totalWithin r (ended r rows)) h in
+      let (d, _) = and-yes (all (λ (rows : List Row). leb (length rows) mostRows) (results r (planTrees g))) (rightWithin r) a in
+      let y = within-small (database r) each-few (planTree g) (results-whole (database r) each-few p (plan-matched g) built d) in
+      let z : length (rowsOf (database r) (planTree g)) ≤ mostRows = leb-yes y in
+      ended-few r rows (omega (arith, finished-fewer (database r) (blankings g) (rowsOf (database r) (planTree g)), z)) c
 
   pub report-wide : (row : Row) → row isIn reportRows r → length row ≡ tableCount p
-  unfolding reportRows runRows planRows database databaseOf
-  report-wide = finished-wide (database r) (tableCount p) (blankings (groundOf p)) (rowsOf (database r) (planTree (groundOf p)))
-      (λ row m. rows-valid plan-laws (planTree (groundOf p))
-      (plan-shaped (groundOf p) plan-laws (database-width p (rowCountIn r) (cellsOf r) no-blank) (lawful-names p (rowCountIn r) (cellsOf r) no-blank) built) row m .len)
+  unfolding reportRows runRows rowsBy planRows
+  report-wide = ended-each r (tableCount p) (finished (database r) (blankings (groundOf p)) (rowsOf (database r) (planTree (groundOf p))))
+      (finished-wide (database r) (tableCount p) (blankings (groundOf p)) (rowsOf (database r) (planTree (groundOf p))) (tree-wide (planTree (groundOf p)) planned))
+      (tree-wide (rightSide (joinTree p)) (right-shaped plan-laws (joinTree p) tree-here))
+    where
+      planned : Shaped plan-laws (planTree (groundOf p))
+      planned = plan-shaped (groundOf p) plan-laws (database-width p (rowCountIn r) (cellsOf r) no-blank) (lawful-names p (rowCountIn r) (cellsOf r) no-blank) built
+
+      tree-here : Shaped plan-laws (joinTree p)
+      tree-here = query-shaped p ok plan-laws (database-width p (rowCountIn r) (cellsOf r) no-blank) (lawful-names p (rowCountIn r) (cellsOf r) no-blank)
+
+      tree-wide : (E : Tree ℕ) → Shaped plan-laws E → Wide (tableCount p) (rowsOf (database r) E)
+      unfolding database databaseOf
+      tree-wide E s row m = rows-valid plan-laws E s row m .len
+
+  -- no more rows are added than there are in all
+  pub added-few : T (question11 r) → countOr0 (reportAdded r) ≤ mostRows
+  unfolding reportAdded addedCount addedTo countOr0 reportRows runRows rowsBy ended
+  added-few h = go (p .fullOuter) (report-few h)
+    where
+      planned : List Row
+      planned = planRows (database r) (planTree (groundOf p)) (blankings (groundOf p))
+
+      more : List Row
+      more = added (tablesUnder (rightSide (joinTree p))) (rowsOf (database r) (rightSide (joinTree p))) planned
+
+      go : (b : Bool) → length (if b then withAdded (database r) (joinTree p) planned else planned) ≤ mostRows
+          → countOr0 (if b then some (length (if b then more else [])) else none) ≤ mostRows
+      unfolding withAdded countOr0 more
+      go true x = omega (arith, x, length-ordered (planned ++ more), length-append planned more)
+      go false x = omega arith
 
 -- ---- a text that is answered
 
@@ -230,7 +304,7 @@ module _ (bs : Bytes) where
       (record { eight = tables-few r well x; few = direct-few r well x z; wide = direct-wide r well x }))
 
   pub report-bounded : (a : ReportAnswer) → reportOutcome bs ≡ answered a
-      → Bounded (length (a .sets)) (a .rows) × (length (a .steps) ≤ mostSteps) × (length (a .tallies) ≤ mostConditions)
+      → Bounded (length (a .sets)) (a .rows) × (length (a .steps) ≤ mostSteps) × (length (a .tallies) ≤ mostConditions) × (countOr0 (a .added) ≤ mostRows)
   unfolding reportOutcome reportQuestions questionsOfReport orderQuestions reportAnswer planAnswer
   report-bounded a e =
       let (r, f, g, h) = answered-report reportQuestions reportAnswer bs a e in
@@ -245,7 +319,8 @@ module _ (bs : Bytes) where
       let n : tableCount q ≡ length (map bitsOf (closedSets q)) = sym (length-map (closedSets q) bitsOf ∙ sets-proper q .each) in
       let few : tableCount q ≤ mostTables = subst (λ (m : ℕ). m ≤ mostTables) (sym (ap tableCount (full-report r) ∙ tables-same (queryOf r))) (tables-few r well x) in
       let rows : (t : ℕ) → rowCountIn full t ≤ mostRows = λ t. subst (λ (m : ℕ). m ≤ mostRows) (sym (full-rows r t)) (rows-limit r (three-yes r x) t) in
-      subst (λ (b : ReportAnswer). Bounded (length (b .sets)) (b .rows) × (length (b .steps) ≤ mostSteps) × (length (b .tallies) ≤ mostConditions)) h (
+      subst (λ (b : ReportAnswer). Bounded (length (b .sets)) (b .rows) × (length (b .steps) ≤ mostSteps) × (length (b .tallies) ≤ mostConditions)
+      × (countOr0 (b .added) ≤ mostRows)) h (
         subst (λ (m : ℕ). Bounded m (reportRows full)) n
             (record {
               eight = few;
@@ -254,4 +329,5 @@ module _ (bs : Bytes) where
             }),
         steps-few full (full-ok r good) few rows (full-nine r good nine),
         conditions-few r x,
+        added-few full (full-ok r good) few rows (full-nine r good nine) z,
       )

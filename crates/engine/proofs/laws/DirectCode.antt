@@ -23,7 +23,7 @@ use Rattle.executor.specs.inner.Reading.{Readable}
 use Rattle.engine.specs.Answers.{directOutcome, Outcome, refused, answered}
 use Rattle.engine.specs.Calls.{widthOf, tableCountOf, question1Direct, cleared, directAfter, DirectCall, directCall}
 use Rattle.engine.specs.inner.Gave.{elevenOf, ifRows, Gave, TreeRead, answerFor, resultFor, lentParts}
-use Rattle.engine.proofs.laws.Kept.{readable}
+use Rattle.engine.proofs.laws.Kept.{readable, some-join}
 use Rattle.engine.specs.inner.Preparing.{enoughLent}
 use Rattle.engine.proofs.laws.DirectLaws.{direct-early, direct-passed}
 use Rattle.engine.specs.declared.answer.Answer.{Answer}
@@ -82,6 +82,10 @@ module _ {bs : Bytes} {before after : List ℤ} {x : Accept.AcceptAnswer} (h : A
 
     pub text-tables : 1 ≤ x .query .«table_count»
     text-tables = kept .stands .some
+
+    -- there is a join where the last one is said to be a full outer join
+    pub text-joins : x .query .«full_outer» ≡ true → 1 ≤ x .query .«join_count»
+    text-joins = some-join (text-ready h e)
 
     pub text-read : {w w′ : List ℕ} {a : Answer} → cellRoom ≤ length before
         → TreeRead (workspace after (x .query .layout) (x .query .conditions)) (x .query) w w′ a → Gave (directOutcome bs) w w′ a

@@ -1,20 +1,19 @@
 -- The direct reading as the code does it gives the outcome that document 01 defines. Assumes nothing.
-use mathlib.Core.Path.{_≡_, sym, ap, _∙_, refl, ap₂, subst}
+use mathlib.Core.Path.{_≡_, sym, ap, _∙_, refl, subst}
 use mathlib.Core.Bool.{Bool, true, false}
 use mathlib.Core.List.{List, [], _∷_}
 use mathlib.Core.Option.{some, none}
-use Prim.Native.Nat.{ℕ}
+use Prim.Native.Nat.{ℕ, _+_, _-_}
 use lib.IntN.{ℤ}
 use lib.ListN.{length}
-use Rattle.cells.specs.Choice.{if_then_else_}
 use Rattle.cells.specs.Row.{Row}
 use Rattle.rows.specs.Rows.{ordered}
-use Rattle.rows.proofs.laws.RowLaws.{length-ordered}
 use Rattle.rows.specs.Trees.{Database, Tree, rowsOf}
 use Rattle.vocabulary.specs.Asking.{Question, firstNo}
 use Rattle.vocabulary.proofs.laws.AskingLaws.{none-left, none-then, asked-no, asked-yes}
 use Rattle.vocabulary.specs.Report.{Report, Query, queryOf, tableCount}
-use Rattle.vocabulary.specs.Nodes.{joinTree}
+use Rattle.vocabulary.specs.Nodes.{treeAt, joinTrees, joinTree}
+use Rattle.vocabulary.specs.inner.Stored.{queryIn}
 use Rattle.vocabulary.specs.inner.Stands.{Stands}
 use Rattle.vocabulary.specs.declared.query.StoredQuery.{StoredQuery}
 use Rattle.text.specs.Bytes.{Bytes}
@@ -26,15 +25,14 @@ use Rattle.joins.specs.inner.Work.{workspace}
 use Rattle.joins.specs.declared.join.Joined.{Joined}
 use Rattle.joins.specs.declared.join.Joined.the-variants as J
 use Rattle.row_lists.specs.inner.Flat.{flatRows}
-use Rattle.executor.proofs.laws.LimitLaws.{read-answer}
-use Rattle.executor.specs.inner.Reading.{readOf, Handed}
+use Rattle.executor.specs.inner.Right.{endedRows, WholeHanded}
 use Rattle.executor.specs.Runs.{question11Direct, directRows}
 use Rattle.engine.specs.Answers.{Outcome, refused, directQuestions, directOutcome, answered}
 use Rattle.engine.proofs.laws.AnswerLaws.{refused-early, outcome-answered, outcome-refused}
 use Rattle.engine.specs.Calls.{written}
 use Rattle.engine.specs.inner.Gave.{answerFor, resultFor, Gave, elevenOf, TreeRead}
 use Rattle.engine.proofs.laws.Kept.{tree-kept}
-use Rattle.engine.proofs.laws.Reached.{within-eleven, direct-count, direct-numbers}
+use Rattle.engine.proofs.laws.Reached.{direct-answer, direct-numbers}
 use Rattle.engine.specs.declared.answer.Answer.{Answer}
 use Rattle.engine.specs.declared.answer.Answer.the-variants.{Refused, Rows}
 
@@ -77,31 +75,29 @@ module _ (bs : Bytes) {s : StoredQuery} {cells : List ℤ} {r : Report} (read : 
   abbrev W : Database ℕ
   W = workspace cells (s .layout) (s .conditions)
 
+  -- the rows at the end
   abbrev found : List Row
-  found = ordered (rowsOf W (joinTree q))
-
-  answer-11 : readOf W (joinTree q) ≡ (if question11Direct r then J.Rows (length found) else J.TooMany)
-  answer-11 =
-      read-answer W (joinTree q)
-      ∙ ap₂ (λ (b : Bool) (n : ℕ). if b then J.Rows n else J.TooMany) (within-eleven ready) (sym (length-ordered (rowsOf W (joinTree q))))
+  found = endedRows W (q .fullOuter) (joinTree q) (ordered (rowsOf W (joinTree q)))
 
   module _ (w w′ : List ℕ) (a : Answer) where
-    handed : (j : Joined) → a ≡ elevenOf j → Handed (readOf W (joinTree q)) found (tableCount q) w w′ j → Gave (directOutcome bs) w w′ a
+    handed : (j : Joined) → a ≡ elevenOf j → WholeHanded W (q .fullOuter) (joinTree q) (tableCount q) w w′ j → Gave (directOutcome bs) w w′ a
     unfolding answerFor resultFor elevenOf written flatRows
     handed j e h = go (question11Direct r) refl
       where
         go : (b : Bool) → question11Direct r ≡ b → Gave (directOutcome bs) w w′ a
         go true f =
-            let x : j ≡ J.Rows (length found) = h .answer ∙ answer-11 ∙ rw f in
-            gave (answered (directRows r)) (outcome-rows f) (e ∙ ap elevenOf x ∙ ap Rows (direct-count ready))
-            (h .written (length found) x .1 ∙ rw (direct-numbers ready))
+            let x : j ≡ J.Rows (length (directRows r)) = h .answer ∙ direct-answer ready ∙ rw f in
+            gave (answered (directRows r)) (outcome-rows f) (e ∙ ap elevenOf x)
+            (h .written (length (directRows r)) x .1 ∙ rw (direct-numbers ready))
         go false f =
-            let x : j ≡ J.TooMany = h .answer ∙ answer-11 ∙ rw f in
+            let x : j ≡ J.TooMany = h .answer ∙ direct-answer ready ∙ rw f in
             gave (refused 11) (outcome-11 f) (e ∙ ap elevenOf x) (h .refused x)
 
     -- the tree read by the code
     pub direct-passed : TreeRead W s w w′ a → Gave (directOutcome bs) w w′ a
+    unfolding queryIn
     direct-passed t =
         handed (t .joined) (t .answer)
-        (subst (λ (n : ℕ). Handed (readOf W (joinTree q)) found n w w′ (t .joined)) (k .table-count)
-        (subst (λ (E : Tree ℕ). Handed (readOf W E) (ordered (rowsOf W E)) (s .«table_count») w w′ (t .joined)) (tree-kept ready) (t .handed)))
+        (subst (λ (n : ℕ). WholeHanded W (q .fullOuter) (joinTree q) n w w′ (t .joined)) (k .table-count)
+        (subst (λ (E : Tree ℕ). WholeHanded W (q .fullOuter) E (s .«table_count») w w′ (t .joined)) (tree-kept ready)
+        (subst (λ (b : Bool). WholeHanded W b (treeAt (joinTrees (queryIn s)) (s .«table_count» + s .«join_count» - 1)) (s .«table_count») w w′ (t .joined)) (k .full-outer) (t .handed))))

@@ -1,7 +1,7 @@
 -- The report with its derived conditions: its tree read directly has the rows of the report as it is written, since no join has a derived
 -- condition; and what questions 5 to 7 say of it. Assumes nothing.
 use mathlib.Core.Path.{_≡_, refl, sym, ap, ap₂, _∙_, subst}
-use mathlib.Core.Bool.{Bool, _&&_}
+use mathlib.Core.Bool.{Bool, true, false, not, _&&_, _||_}
 use mathlib.Core.List.{List, [], _∷_, _++_, map, flatMap}
 use Prim.Native.Nat.{ℕ, _<_, _≤_}
 use lib.Dec.{T}
@@ -9,15 +9,17 @@ use lib.ListN.{length}
 use Rattle.cells.specs.Condition.{trueIn}
 use Rattle.cells.specs.Row.{Row, blankRow}
 use Rattle.cells.specs.declared.condition.Condition.{Condition}
-use Rattle.rows.specs.Lists.{_isIn_, all, orElse}
+use Rattle.rows.specs.Lists.{_isIn_, all, any, keep, orElse}
 use Rattle.rows.proofs.laws.ListLaws.{here, there, keep-same}
 use Rattle.rows.specs.Rows.{merge, ordered}
 use Rattle.rows.specs.Trees.{Database, Tree, leaf, join, allTrue, matches, joined, rowsOf}
+use Rattle.rows.specs.FullOuter.{partnered, unmatched, fullOuterRows, wholeRows}
 use Rattle.rows.specs.declared.kind.Kind.{Kind}
 use Rattle.rows.specs.declared.kind.Kind.the-variants.{Inner, Outer, Product}
 use Rattle.vocabulary.specs.Database.{databaseOf, tableAt, rowCountIn, cellsOf, database}
 use Rattle.vocabulary.specs.Report.{Report, Query, queryOf, tableCount, conditionAt}
 use Rattle.vocabulary.specs.Nodes.{joinTree, joinTrees, treeOf}
+use Rattle.links.specs.Links.{withDerived}
 use Rattle.plan.specs.Full.{fullQuery, fullReport}
 use Rattle.plan.specs.Questions.{question9}
 use Rattle.plan.proofs.laws.BuiltLaws.{each-node, of-last}
@@ -71,6 +73,22 @@ module _ {K : Type 0} (width : ℕ) (rowCount : ℕ → ℕ) (h h′ : K → Row
   rows-alike (leaf t) e = refl
   rows-alike (join k C A B) (a, b, c) = ap₂ (joined D k C) (rows-alike A a) (rows-alike B b) ∙ joined-alike k C c (rowsOf D′ A) (rowsOf D′ B)
 
+  any-alike : (f g : Row → Bool) → ((a : Row) → f a ≡ g a) → (As : List Row) → any f As ≡ any g As
+  unfolding any
+  any-alike f g e [] = refl
+  any-alike f g e (a ∷ As) = ap₂ _||_ (e a) (any-alike f g e As)
+
+  -- with the last join as a full outer one too
+  whole-alike : (b : Bool) (E : Tree K) → EachCondition Same E → wholeRows D b E ≡ wholeRows D′ b E
+  unfolding wholeRows fullOuterRows unmatched partnered
+  whole-alike false E e = rows-alike E e
+  whole-alike true (leaf t) e = rows-alike (leaf t) e
+  whole-alike true (join k C A B) e =
+      ap₂ _++_ (rows-alike (join Outer C A B) e)
+      (ap₂ (λ (As Bs : List Row). keep (λ b. not (any (λ a. allTrue D C (merge a b)) As)) Bs) (rows-alike A (e .0)) (rows-alike B (e .1))
+      ∙ keep-same (λ b. not (any (λ a. allTrue D C (merge a b)) (rowsOf D′ A))) (λ b. not (any (λ a. allTrue D′ C (merge a b)) (rowsOf D′ A))) (rowsOf D′ B)
+      (λ b. ap not (any-alike (λ a. allTrue D C (merge a b)) (λ a. allTrue D′ C (merge a b)) (λ a. all-alike C (e .2) (merge a b)) (rowsOf D′ A))))
+
 -- ---- a report that questions 5 to 7 do not turn down
 
 module _ (r : Report) (ok : Accepted (queryOf r)) where
@@ -92,15 +110,19 @@ module _ (r : Report) (ok : Accepted (queryOf r)) where
   alike (leaf t) e = tt
   alike (join k C A B) (a, b, c) = (alike A a, alike B b, λ d m row. ap (λ (z : Condition). trueIn (cellsOf r) z row) (written-same q d (c d m)))
 
+  flag-same : fullQuery q .fullOuter ≡ q .fullOuter
+  unfolding fullQuery withDerived
+  flag-same = refl
+
   -- the tree read directly is that of the report as it is written
   pub full-direct : directRows (fullReport r) ≡ directRows r
   unfolding directRows database databaseOf rowCountIn cellsOf tableAt fullReport
   full-direct =
-      ap (λ (z : Query). ordered (rowsOf (databaseOf z (rowCountIn r) (cellsOf r)) (joinTree z))) (full-report r)
-      ∙ ap ordered (ap (λ (E : Tree ℕ). rowsOf (databaseOf (fullQuery q) (rowCountIn r) (cellsOf r)) E) (tree-same q)
-      ∙ ap (λ (n : ℕ). rowsOf (record { width = n; rowCount = rowCountIn r; holds = λ (c : ℕ) (row : Row). trueIn (cellsOf r) (conditionAt (fullQuery q) c) row }) (joinTree q)) (tables-same q)
-      ∙ rows-alike (tableCount q) (rowCountIn r) (λ (c : ℕ) (row : Row). trueIn (cellsOf r) (conditionAt (fullQuery q) c) row)
-      (λ (c : ℕ) (row : Row). trueIn (cellsOf r) (conditionAt q c) row) (joinTree q) (alike (joinTree q) numbered))
+      ap (λ (z : Query). ordered (wholeRows (databaseOf z (rowCountIn r) (cellsOf r)) (z .fullOuter) (joinTree z))) (full-report r)
+      ∙ ap ordered (ap₂ (λ (b : Bool) (E : Tree ℕ). wholeRows (databaseOf (fullQuery q) (rowCountIn r) (cellsOf r)) b E) flag-same (tree-same q)
+      ∙ ap (λ (n : ℕ). wholeRows (record { width = n; rowCount = rowCountIn r; holds = λ (c : ℕ) (row : Row). trueIn (cellsOf r) (conditionAt (fullQuery q) c) row }) (q .fullOuter) (joinTree q)) (tables-same q)
+      ∙ whole-alike (tableCount q) (rowCountIn r) (λ (c : ℕ) (row : Row). trueIn (cellsOf r) (conditionAt (fullQuery q) c) row)
+      (λ (c : ℕ) (row : Row). trueIn (cellsOf r) (conditionAt q c) row) (q .fullOuter) (joinTree q) (alike (joinTree q) numbered))
 
   pub full-nine : T (question9 q) → T (question9 (queryOf (fullReport r)))
   full-nine h = subst (λ (z : Query). T (question9 z)) (sym (full-report r)) (subst T (sym (nine-same q)) h)

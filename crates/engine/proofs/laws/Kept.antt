@@ -70,6 +70,13 @@ module _ {s : StoredQuery} {cells : List ℤ} {r : Report} (ready : Ready s cell
     ranges = λ i h. k .ranges (few-joins ready) i h noJoin;
   }
 
+  -- there is a join where the last one is said to be a full outer join
+  pub some-join : s .«full_outer» ≡ true → 1 ≤ s .«join_count»
+  unfolding queryIn
+  some-join e =
+      let (i, count, _) = ready .accepted .read .last (subst T (sym (sym (k .full-outer) ∙ e)) tt) in
+      omega (arith, count, k .join-count)
+
   -- ---- the tree
 
   nodes-kept : length (joinTrees q) ≡ s .«table_count» + s .«join_count»

@@ -23,7 +23,7 @@ use Rattle.plan.specs.Full.{fullQuery, fullReport}
 use Rattle.plan.specs.Questions.{queryQuestions, orderQuestions}
 use Rattle.prepare.proofs.laws.FullStanding.{full-report, full-rows, full-cells}
 use Rattle.prepare.specs.Asking.{sharedQuestions, questionsOfReport, questionsOfDirect}
-use Rattle.executor.specs.Runs.{results, withinLimit, directRows, question11, question11Direct, runRows, reportRows, pairCounts, reportSteps}
+use Rattle.executor.specs.Runs.{results, withinLimit, totalWithin, rightWithin, addedTo, ended, directRows, question11, question11Direct, rowsBy, addedCount, withinBy, countsBy, runRows, reportRows, reportAdded, pairCounts, reportSteps}
 use Rattle.engine.specs.Answers.{reportQuestions, planAnswer, reportAnswer, directQuestions}
 use Rattle.engine.specs.KeyColumns.{withoutKeys}
 
@@ -95,7 +95,7 @@ module _ (r : Report) where
       (fun-ext (λ t. fun-ext (λ row. fun-ext (λ c. full-cells s t row c ∙ (λ i. cells-same i t row c) ∙ sym (full-cells r t row c)))))
 
   pub answer-same : reportAnswer s ≡ reportAnswer r
-  unfolding reportAnswer planAnswer reportSteps reportRows runRows pairCounts results
+  unfolding reportAnswer planAnswer reportSteps reportRows reportAdded runRows rowsBy addedCount addedTo ended pairCounts countsBy results
   answer-same = rw (full-query-same, full-database-same, tallies-same)
 
   pub direct-same : directRows s ≡ directRows r
@@ -113,11 +113,11 @@ module _ (r : Report) where
   four-same = all-map (λ (t : Table). all (λ (zs : List ℤ). eqb (length zs) (t .columns)) (t .rows)) bare (r .tables)
 
   eleven-same : question11 (fullReport s) ≡ question11 (fullReport r)
-  unfolding question11 results withinLimit
+  unfolding question11 withinBy rightWithin totalWithin rowsBy ended results withinLimit
   eleven-same = rw (full-query-same, full-database-same)
 
   eleven-direct-same : question11Direct s ≡ question11Direct r
-  unfolding question11Direct results withinLimit
+  unfolding question11Direct totalWithin directRows results withinLimit
   eleven-direct-same = rw (query-same, database-same)
 
   twelve-bare : question12 s ≡ true

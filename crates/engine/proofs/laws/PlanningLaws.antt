@@ -7,7 +7,7 @@ use lib.ListN.{length, replicate, getD, take}
 use native.Mathlib.Numerals.{add-one}
 use native.Mathlib.Omega.{arith}
 use lib.Seq.{length-take-le, take-suc}
-use Rattle.cells.specs.Limits.{areas}
+use Rattle.cells.specs.Limits.{areas, resultRoom}
 use Rattle.vocabulary.specs.Report.{joinOrder, Query}
 use Rattle.vocabulary.specs.inner.Stored.{queryIn}
 use Rattle.vocabulary.specs.declared.query.StoredQuery.{StoredQuery}
@@ -17,21 +17,27 @@ use Rattle.plan.proofs.laws.RowCounts.{countedSteps, no-rows, rows-next, all-ro
 use Rattle.plan.specs.declared.steps.Plan.{Plan}
 use Rattle.plan.specs.inner.Words.{setWords}
 use Rattle.joins.specs.inner.Work.{workspace}
-use Rattle.joins.specs.declared.join.Joined.{Joined}
 use Rattle.executor.proofs.laws.PlanRuns.{PlanRan}
+use Rattle.step_list.specs.inner.State.{Findable, endRows, Ended}
+use Rattle.step_list.specs.declared.last.Finished.{Finished}
+use Rattle.step_list.specs.declared.state.State.{State}
 use Rattle.engine.specs.inner.Planning.{factsIn, handedOver, turnedDown, answeredWith, withCounts}
 use Rattle.engine.specs.Answers.{Outcome, refused, answered, ReportAnswer}
 use Rattle.engine.specs.Calls.{factsOf, written}
 use Rattle.engine.specs.declared.planned.Concluded.{Concluded}
 
--- the run of a query's plan over the cells of a cell buffer
+-- the run of a query's plan over the cells of a cell buffer: the state and the work buffer behind its steps, and its end
 pub record StepsRun (cells : List ℤ) (q : StoredQuery) (w w′ : List ℕ) (r : Concluded) : Type 0 where
-  pub counts : List ℕ
-  pub joined : Joined
-  pub long : length counts ≡ areas
-  pub ran : PlanRan (workspace cells (q .layout) (q .conditions)) (planTrees (groundOf (queryIn q))) (q .«table_count») (q .«table_count» - 1) (blankings (groundOf (queryIn q))) counts w w′ joined
-  pub handed : r ≡ handedOver q (factsIn q (setWords (closedSets (queryIn q))) cells) (listed (stepsOf (groundOf (queryIn q)) (replicate (length (joinOrder (queryIn q))) 0)))
-      counts joined
+  pub state : State
+  pub work : List ℕ
+  pub finished : Finished
+  pub wide : resultRoom ≤ length w
+  pub long : length (state .counts) ≡ areas
+  pub ran : PlanRan (workspace cells (q .layout) (q .conditions)) (planTrees (groundOf (queryIn q))) (q .«table_count») (q .«table_count» - 1) (blankings (groundOf (queryIn q)))
+      (state .counts) (Findable q state work) (endRows q state work)
+  pub ended : Ended cells q state work w w′ finished
+  pub handed : r ≡ handedOver q (factsIn q (setWords (closedSets (queryIn q))) cells (finished .added))
+      (listed (stepsOf (groundOf (queryIn q)) (replicate (length (joinOrder (queryIn q))) 0))) (state .counts) (finished .joined)
 
 -- ---- an outcome
 

@@ -21,7 +21,6 @@ use Rattle.plan.specs.declared.steps.Plan.{Plan}
 use Rattle.prepare.specs.inner.Prepared.{readyFor}
 use Rattle.prepare.specs.declared.prepared.Prepared.{Prepared}
 use Rattle.vocabulary.specs.declared.facts.Facts.{Facts}
-use Rattle.joins.specs.declared.join.Joined.{Joined}
 use Rattle.joins.specs.declared.join.Joined.the-variants as J
 use Rattle.executor.specs.inner.Reading.{Readable}
 use Rattle.executor.proofs.laws.StepRuns.{steps-pairs}
@@ -29,6 +28,7 @@ use Rattle.step_list.specs.inner.Laid.{laid}
 use Rattle.step_list.proofs.laws.LentRuns.{lent-ran}
 use Rattle.step_list.specs.inner.Over.{Runs}
 use Rattle.step_list.specs.inner.State.{Ended, startState}
+use Rattle.step_list.specs.declared.last.Finished.{Finished}
 use Rattle.step_list.specs.declared.state.State.{State}
 use Rattle.engine.specs.inner.Planning.{turnedDown, answeredWith, withCounts, factsIn, handedOver}
 use Rattle.engine.proofs.laws.PlanningLaws.{StepsRun}
@@ -61,9 +61,9 @@ module _ {p : Prepared} {r : State} {c : List ℤ} {w v : List ℕ} where
   pub ends-away : {x : Concluded} → 0 < p .number → x ≡ turnedDown (p .number) → Ends p r c w v v x
   ends-away e f = record { refused = λ h. (f, refl); rows = λ h. absurd (omega (arith, e, h)) }
 
-  module _ {v′ : List ℕ} {a : Joined} (e : p .number ≤ 0) (long : length (r .counts) ≡ areas) (ended : Ended (p .query) r w v v′ a) where
-    pub ends-rows : {x : Concluded} {f : Facts} {s : Plan} (k : ℕ) → a ≡ J.Rows k → x ≡ answeredWith k f s → f ≡ factsIn (p .query) (p .sets) c
-        → s ≡ withCounts (p .plan) (r .counts) (p .query .«table_count» - 1) → Ends p r c w v v′ x
+  module _ {v′ : List ℕ} {a : Finished} (e : p .number ≤ 0) (long : length (r .counts) ≡ areas) (ended : Ended c (p .query) r w v v′ a) where
+    pub ends-rows : {x : Concluded} {f : Facts} {s : Plan} (k : ℕ) → a .joined ≡ J.Rows k → x ≡ answeredWith k f s
+        → f ≡ factsIn (p .query) (p .sets) c (a .added) → s ≡ withCounts (p .plan) (r .counts) (p .query .«table_count» - 1) → Ends p r c w v v′ x
     unfolding handedOver
     ends-rows k f i h g = record {
       refused = λ z. absurd (omega (arith, e, z));
@@ -72,16 +72,16 @@ module _ {p : Prepared} {r : State} {c : List ℤ} {w v : List ℕ} where
         (
           a,
           ended,
-          i ∙ ap₂ (answeredWith k) h g ∙ sym (ap (handedOver (p .query) (factsIn (p .query) (p .sets) c) (p .plan) (r .counts)) f),
+          i ∙ ap₂ (answeredWith k) h g ∙ sym (ap (handedOver (p .query) (factsIn (p .query) (p .sets) c (a .added)) (p .plan) (r .counts)) f),
         ),
       );
     }
 
-    pub ends-over : {x : Concluded} → a ≡ J.TooMany → x ≡ turnedDown 11 → Ends p r c w v v′ x
+    pub ends-over : {x : Concluded} → a .joined ≡ J.TooMany → x ≡ turnedDown 11 → Ends p r c w v v′ x
     unfolding handedOver
     ends-over f g = record {
       refused = λ h. absurd (omega (arith, e, h));
-      rows = λ h. (long, (a, ended, g ∙ sym (ap (handedOver (p .query) (factsIn (p .query) (p .sets) c) (p .plan) (r .counts)) f)));
+      rows = λ h. (long, (a, ended, g ∙ sym (ap (handedOver (p .query) (factsIn (p .query) (p .sets) c (a .added)) (p .plan) (r .counts)) f)));
     }
 
 -- ---- a query that is ready, its plan laid into a list of n steps and run from it
@@ -95,10 +95,13 @@ module _ (q : StoredQuery) (readable : Readable q) (five : T (question5 (queryIn
       let (eight, (a, ended, handed)) = end .rows refl in
       let paired : q .«table_count» - 1 ≡ length (joinOrder (queryIn q)) = omega (arith, steps-pairs q readable five nine) in
       record {
-        counts = r .counts;
-        joined = a;
+        state = r;
+        work = w′;
+        finished = a;
+        wide = wide;
         long = eight;
         ran = lent-ran q (listed (stepsOf (groundOf (queryIn q)) (replicate (length (joinOrder (queryIn q))) 0))) refl readable five nine (q .«table_count»)
-            (q .«table_count» - 1) (length (blankings (groundOf (queryIn q)))) refl paired refl cells n enough r w w′ v v′ a long wide run ended;
+            (q .«table_count» - 1) (length (blankings (groundOf (queryIn q)))) refl paired refl cells n enough r w w′ long run;
+        ended = ended;
         handed = handed;
       }

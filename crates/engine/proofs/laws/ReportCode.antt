@@ -41,7 +41,7 @@ use Rattle.engine.specs.Answers.{reportOutcome, Outcome, refused, answer
 use Rattle.engine.proofs.laws.Bounds.{report-bounded}
 use Rattle.engine.specs.Calls.{Lent, ReportCall, laidOut, question1Direct, question1, cleared, reportAfter, reportCall}
 use Rattle.engine.specs.inner.Gave.{lentParts}
-use Rattle.engine.proofs.laws.Kept.{readable, nine-kept}
+use Rattle.engine.proofs.laws.Kept.{readable, some-join, nine-kept}
 use Rattle.engine.specs.inner.Planning.{turnedDown, asCall, refusedReply, answeredWith}
 use Rattle.engine.proofs.laws.PlanningLaws.{StepsRun, Reported, concludedFor, resultAfter}
 use Rattle.engine.specs.inner.Preparing.{QueryWithin, Within, Ends, byValue, enoughLent, Concludes}
@@ -76,7 +76,14 @@ prepared-within {p = p} (passed {a} h e z) f =
     let k = full-ready h e in
     let x = k .stands in
     let same : p .query ≡ a .full = ap (λ (y : Prepared). y .query) (z _ _ x) ∙ by-query (a .full) _ in
-    subst QueryWithin (sym same) (record { some = x .some; tables = x .few; conditions = k .conditions; rows = layout-rows k })
+    subst QueryWithin (sym same) (record {
+      some = x .some;
+      tables = x .few;
+      conditions = k .conditions;
+      rows = layout-rows k;
+      readable = readable k;
+      joined = some-join k;
+    })
 
 module _ (bs : Bytes) (before after : List ℤ) (p : Prepared) (room : cellRoom ≤ length before) (n : ℕ) (enough : stepListRoom ≤ n)
     (w w′ v v′ : List ℕ) (long : workRoom ≤ length w) (wide : resultRoom ≤ length v) (r : State) (h : Concluded) where

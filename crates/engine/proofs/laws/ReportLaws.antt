@@ -1,6 +1,6 @@
 -- The run of a plan as the code does it gives the outcome that document 01 defines. Assumes nothing.
 use mathlib.Core.Path.{_≡_, sym, ap, _∙_, refl, ap₂, subst}
-use mathlib.Core.Bool.{Bool, true, false}
+use mathlib.Core.Bool.{Bool, true, false, _&&_, and-assoc, and-false}
 use mathlib.Core.List.{List, [], _∷_, _++_, append-assoc, map, flatMap}
 use mathlib.Core.Option.{Option, some, none}
 use Prim.Native.Nat.{ℕ, _-_, _≤_, suc, _+_, _<_}
@@ -11,7 +11,8 @@ use lib.ListN.{length, replicate, getD, take, drop, length-map, length-drop, Lis
 use lib.Seq.{ext-getD, getD-drop, getD-take, length-take-le}
 use mir.Facts.{leb-yes}
 use Rattle.cells.proofs.laws.BoolLaws.{is-true, is-false}
-use Rattle.cells.specs.Limits.{mostTables, mostConditions, mostRows, areas}
+use Rattle.cells.specs.Choice.{if_then_else_}
+use Rattle.cells.specs.Limits.{mostTables, mostConditions, mostRows, areas, resultRoom}
 use Rattle.cells.specs.Condition.{Cells, cellsIn}
 use Rattle.cells.specs.Row.{Row}
 use Rattle.cells.proofs.laws.TableLaws.{getD-within}
@@ -27,7 +28,7 @@ use Rattle.vocabulary.specs.Tallies.{conditionTally, tallies}
 use Rattle.vocabulary.specs.declared.facts.Facts.{Facts}
 use Rattle.vocabulary.specs.declared.facts.Tally.{Tally}
 use Rattle.vocabulary.specs.Report.{Report, queryOf, Query, joinOrder, tableCount, tableNumbers}
-use Rattle.vocabulary.specs.Nodes.{treeOf, treesOf, treeAt, lastTree}
+use Rattle.vocabulary.specs.Nodes.{treeOf, treesOf, treeAt, lastTree, joinTrees, joinTree}
 use Rattle.vocabulary.proofs.laws.NodeLaws.{grown-length}
 use Rattle.vocabulary.specs.inner.Stands.{Stands}
 use Rattle.vocabulary.specs.Steps.{bitsOf}
@@ -55,14 +56,20 @@ use Rattle.joins.specs.declared.join.Joined.{Joined}
 use Rattle.joins.specs.declared.join.Joined.the-variants as J
 use Rattle.row_lists.specs.inner.Flat.{flatRows}
 use Rattle.executor.proofs.laws.PlanRuns.{PlanRan, ran, over}
-use Rattle.executor.specs.Runs.{question11, results, withinLimit, reportRows, pairCounts, reportSteps}
+use Rattle.executor.proofs.laws.ReadingLaws.{not-rows}
+use Rattle.executor.specs.inner.Finishing.{RowsWritten}
+use Rattle.executor.specs.inner.Right.{endAnswer, endedRows}
+use Rattle.executor.specs.Runs.{question11, results, withinLimit, totalWithin, rightWithin, rowsBy, withinBy, countsBy, runRows, reportRows, reportAdded, pairCounts, reportSteps}
+use Rattle.step_list.specs.inner.State.{Findable, endRows, Ended, endWritten, endOver, endNone}
+use Rattle.step_list.specs.declared.last.Finished.{Finished}
+use Rattle.step_list.specs.declared.state.State.{State}
 use Rattle.engine.specs.Answers.{Outcome, ReportAnswer, refused, reportQuestions, outcomeBy, planAnswer, reportAnswer, reportOutcome, answered}
 use Rattle.engine.proofs.laws.AnswerLaws.{refused-early, outcome-answered, outcome-refused}
-use Rattle.engine.specs.Calls.{factsWith, factsOf, written}
-use Rattle.engine.proofs.laws.Kept.{nine-yes, query-kept}
+use Rattle.engine.specs.Calls.{factsWith, factsOf, counted, countOr0, written}
+use Rattle.engine.proofs.laws.Kept.{nine-yes, query-kept, tree-kept}
 use Rattle.engine.proofs.laws.PlanningLaws.{concludedFor, resultAfter, Reported, StepsRun, rows-counted}
 use Rattle.engine.specs.inner.Planning.{turnedDown, answeredWith, withCounts, factsIn, handedOver}
-use Rattle.engine.proofs.laws.Reached.{pair-count, node-count, report-count, report-numbers}
+use Rattle.engine.proofs.laws.Reached.{pair-count, node-count, report-answer, report-numbers, report-added}
 use Rattle.engine.specs.declared.planned.Concluded.{Concluded}
 
 -- an outcome that is known
@@ -172,6 +179,11 @@ module _ (bs : Bytes) {s : StoredQuery} {cells : List ℤ} {said : Report} (read
     unfolding reportOutcome
     outcome-rows e = outcome-answered reportQuestions reportAnswer bs said read (asked-11 ∙ asked-yes _ _ said e ∙ none-left said)
 
+    -- the kept flag and the kept tree are the query's
+    by-tree : (P : Bool → Tree ℕ → Type 0) → P (s .«full_outer») (treeAt (joinTrees (queryIn s)) (s .«table_count» + s .«join_count» - 1)) → P (q .fullOuter) (joinTree q)
+    unfolding queryIn
+    by-tree P h = subst (λ (E : Tree ℕ). P (q .fullOuter) E) (tree-kept ready) (subst (λ (b : Bool). P b (treeAt (joinTrees (queryIn s)) (s .«table_count» + s .«join_count» - 1))) (k .full-outer) h)
+
     -- work space, over the cells that the text leaves
     abbrev W : Database ℕ
     W = workspace cells (s .layout) (s .conditions)
@@ -212,11 +224,21 @@ module _ (bs : Bytes) {s : StoredQuery} {cells : List ℤ} {said : Report} (read
     pair-rows : (i : ℕ) → i < length (joinOrder q) → length (rowsOf W (treeAt trees (n + i))) ≡ length (rowsOf (database r) (treeAt trees (n + i)))
     pair-rows i h = node-count ready nine (n + i) (omega (arith, nodes, h))
 
+    -- what question 11 asks of the pairs, of the right side and of the total
+    abbrev pairsWithin : Bool
+    pairsWithin = all (λ (rows : List Row). leb (length rows) mostRows) found
+
+    abbrev endWithin : Bool
+    endWithin = rightWithin r && totalWithin r (reportRows r)
+
+    eleven-parts : question11 r ≡ (pairsWithin && endWithin)
+    unfolding question11 withinBy withinLimit results reportRows runRows
+    eleven-parts = and-assoc pairsWithin (rightWithin r) (totalWithin r (rowsBy r (groundOf q) (blankings (groundOf q))))
+
     -- a pair with too many rows
     module _ (i : ℕ) (h : i < length (joinOrder q)) (o : mostRows < length (rowsOf W (treeAt trees (n + i)))) where
-      eleven-no : question11 r ≡ false
-      unfolding question11 withinLimit results
-      eleven-no = is-false _ (not-T (all (λ (rows : List Row). leb (length rows) mostRows) found) (λ y.
+      pairs-no : pairsWithin ≡ false
+      pairs-no = is-false _ (not-T pairsWithin (λ y.
           let x : T (leb (length (getD found i (rowsOf (database r) (leaf 0)))) mostRows) =
           all-elim (λ (rows : List Row). leb (length rows) mostRows) found y (getD found i (rowsOf (database r) (leaf 0)))
           (getD-isIn found i (rowsOf (database r) (leaf 0)) (omega (arith, found-count, h))) in
@@ -225,15 +247,17 @@ module _ (bs : Bytes) {s : StoredQuery} {cells : List ℤ} {said : Report} (read
           ap length (found-at i) ∙ sym (pair-rows i h) in
           omega arith))
 
+      eleven-no : question11 r ≡ false
+      eleven-no = eleven-parts ∙ rw pairs-no
+
     -- every pair ran
     module _ (counts : List ℕ) (long : length counts ≡ areas) (few : (i : ℕ) → i < n - 1 → getD counts i 0 ≤ mostRows)
         (each : (i : ℕ) → i < n - 1 → getD counts i 0 ≡ length (rowsOf W (treeAt trees (n + i)))) where
       count-at : (i : ℕ) → i < length (joinOrder q) → getD counts i 0 ≡ length (getD found i (rowsOf (database r) (leaf 0)))
       count-at i h = each i (omega (arith, pairs, h)) ∙ pair-rows i h ∙ sym (ap length (found-at i))
 
-      eleven-yes : question11 r ≡ true
-      unfolding question11 withinLimit results
-      eleven-yes = is-true (all (λ (rows : List Row). leb (length rows) mostRows) found)
+      pairs-yes : pairsWithin ≡ true
+      pairs-yes = is-true (all (λ (rows : List Row). leb (length rows) mostRows) found)
           (all-intro (λ (rows : List Row). leb (length rows) mostRows) found (λ rows m.
           let (i, h, e) = isIn-at (rowsOf (database r) (leaf 0)) m in
           let k : i < length (joinOrder q) = omega (arith, found-count, h) in
@@ -241,7 +265,7 @@ module _ (bs : Bytes) {s : StoredQuery} {cells : List ℤ} {said : Report} (read
           le→leb (length rows) mostRows (omega (arith, c, few i (omega (arith, pairs, k))))))
 
       counts-all : take (length (joinOrder q)) counts ≡ pairCounts r
-      unfolding pairCounts results
+      unfolding pairCounts countsBy results
       counts-all =
           let l : length (joinOrder q) ≤ length counts = omega (arith, pairs, long, tables-few) in
           let a : length (take (length (joinOrder q)) counts) ≡ length (joinOrder q) = length-take-le (length (joinOrder q)) counts l in
@@ -274,38 +298,94 @@ module _ (bs : Bytes) {s : StoredQuery} {cells : List ℤ} {said : Report} (read
     tables-all : n ≡ length (map bitsOf (closedSets q))
     tables-all = sym (length-map (closedSets q) bitsOf ∙ sets-proper q .each)
 
-    -- what stands beside the rows
-    facts-all : factsIn s (setWords (closedSets (queryIn s))) cells ≡ factsOf (reportAnswer said)
+    -- what stands beside the rows, where so many were added
+    facts-all : (added : ℕ) → added ≡ countOr0 (reportAdded r) → factsIn s (setWords (closedSets (queryIn s))) cells added ≡ factsOf (reportAnswer said)
     unfolding factsIn factsOf reportAnswer planAnswer
-    facts-all =
+    facts-all added e =
         let same = query-kept ready admitted in
         let t : s .«table_count» ≡ length (map bitsOf (closedSets q)) = k .table-count ∙ tables-all in
         let b : setWords (closedSets (queryIn s)) ≡ map bitsOf (closedSets q) ++ replicate (mostTables - length (map bitsOf (closedSets q))) 0 =
         ap (λ (z : Query). setWords (closedSets z)) same ∙ sets-all in
         let u = tallies-all k (ap (λ (z : Query). z .conditions) same) in
-        λ i. factsWith (t i) (b i) (u .0 i) (u .1 i)
+        let f : s .«full_outer» ≡ counted (reportAdded r) = kept-flag ∙ sym (report-added ready nine .0) in
+        λ i. factsWith (t i) (b i) (u .0 i) (u .1 i) (f i) (e i)
+      where
+        kept-flag : s .«full_outer» ≡ q .fullOuter
+        unfolding queryIn
+        kept-flag = k .full-outer
 
-    -- the plan run
-    ran-gives : (w w′ : List ℕ) {x : Concluded} (facts : Facts) (counts : List ℕ) (j : Joined) → facts ≡ factsOf (reportAnswer said) → length counts ≡ areas
-        → PlanRan W trees n (n - 1) (blankings (groundOf q)) counts w w′ j → x ≡ handedBy facts q n counts j → Reported (reportOutcome bs) w w′ x
-    unfolding concludedFor resultAfter reportAnswer planAnswer written flatRows
-    ran-gives w w′ facts counts _ beside long (ran m few each x) e =
-        let f : finished W (blankings (groundOf q)) (rowsOf W (treeAt trees (n + (n - 1) - 1))) ≡ finished W (blankings (groundOf q)) (rowsOf W (planTree (groundOf q))) =
-        ap (λ (E : Tree ℕ). finished W (blankings (groundOf q)) (rowsOf W E)) (last-node counts long few each) in
-        let c : m ≡ length (reportRows r) = x .count ∙ ap length f ∙ report-count ready nine in
-        let v : flatRows n (finished W (blankings (groundOf q)) (rowsOf W (treeAt trees (n + (n - 1) - 1)))) ≡ flatMap (λ (row : Row). row) (reportRows r) =
-        ap (flatMap (take n)) f ∙ report-numbers ready nine in
-        reported (answered (reportAnswer said)) (outcome-rows (eleven-yes counts long few each))
-        (e ∙ rw (c, beside, steps-all counts long few each)) (x .numbers ∙ rw v)
-    ran-gives w w′ facts counts _ beside long (over i h o f) e =
-        reported (refused 11) (outcome-11 (eleven-no i (omega (arith, pairs, h)) o)) e f
+    -- ---- the plan run by the code
 
-    -- and run by the code
+    abbrev planRowsIn : List Row
+    planRowsIn = finished W (blankings (groundOf q)) (rowsOf W (planTree (groundOf q)))
+
+    module _ (w w′ : List ℕ) {x : Concluded} (rows : List Row) (Found : Type 0) (counts : List ℕ) (fin : Finished) (long : length counts ≡ areas) where
+      -- the end of the run, by what it found
+      module _ (few : (i : ℕ) → i < n - 1 → getD counts i 0 ≤ mostRows) (each : (i : ℕ) → i < n - 1 → getD counts i 0 ≡ length (rowsOf W (treeAt trees (n + i))))
+          (same : rows ≡ finished W (blankings (groundOf q)) (rowsOf W (treeAt trees (n + (n - 1) - 1)))) where
+        found-rows : rows ≡ planRowsIn
+        found-rows = same ∙ ap (λ (E : Tree ℕ). finished W (blankings (groundOf q)) (rowsOf W E)) (last-node counts long few each)
+
+        answer-is : endAnswer W (q .fullOuter) (joinTree q) rows ≡ (if endWithin then J.Rows (length (reportRows r)) else J.TooMany)
+        answer-is = ap (endAnswer W (q .fullOuter) (joinTree q)) found-rows ∙ report-answer ready nine
+
+        -- all results are within the limit
+        module _ (m : ℕ) (a : endAnswer W (q .fullOuter) (joinTree q) rows ≡ J.Rows m) where
+          rows-of : (b : Bool) → (if b then J.Rows (length (reportRows r)) else J.TooMany) ≡ J.Rows m → (b ≡ true) × (m ≡ length (reportRows r))
+          rows-of true e = let z : length (reportRows r) ≡ m = cc in (refl, sym z)
+          rows-of false e = absurd (not-rows m e)
+
+          known : (endWithin ≡ true) × (m ≡ length (reportRows r))
+          known = rows-of endWithin (sym answer-is ∙ a)
+
+          pub ran-written : RowsWritten (endedRows W (q .fullOuter) (joinTree q) rows) n w w′ m
+              → x ≡ handedBy (factsIn s (setWords (closedSets (queryIn s))) cells (m - length rows)) q n counts (J.Rows m) → Reported (reportOutcome bs) w w′ x
+          unfolding concludedFor resultAfter reportAnswer planAnswer written flatRows
+          ran-written t e =
+              let c : m ≡ length (reportRows r) = known .1 in
+              let v : flatRows n (endedRows W (q .fullOuter) (joinTree q) rows) ≡ flatMap (λ (row : Row). row) (reportRows r) =
+              ap (λ (l : List Row). flatMap (take n) (endedRows W (q .fullOuter) (joinTree q) l)) found-rows ∙ report-numbers ready nine in
+              let d : m - length rows ≡ countOr0 (reportAdded r) = ap₂ (λ (i : ℕ) (l : List Row). i - length l) c found-rows ∙ report-added ready nine .1 in
+              reported (answered (reportAnswer said)) (outcome-rows (eleven-parts ∙ rw (pairs-yes counts long few each, known .0)))
+              (e ∙ rw (facts-all (m - length rows) d, c, steps-all counts long few each)) (t .numbers ∙ rw v)
+
+        -- the right side or the total is not
+        pub ran-over : endAnswer W (q .fullOuter) (joinTree q) rows ≡ J.TooMany → w′ ≡ w → x ≡ turnedDown 11 → Reported (reportOutcome bs) w w′ x
+        unfolding concludedFor resultAfter
+        ran-over a e f = reported (refused 11) (outcome-11 (eleven-parts ∙ rw (none-of endWithin (sym answer-is ∙ a)) (and-false pairsWithin))) f e
+          where
+            none-of : (b : Bool) → (if b then J.Rows (length (reportRows r)) else J.TooMany) ≡ J.TooMany → b ≡ false
+            none-of true z = absurd (not-rows _ (sym z))
+            none-of false z = refl
+
+    -- the run of the plan, by its end
+    ran-gives : (w w′ : List ℕ) {x : Concluded} (state : State) (work : List ℕ) (fin : Finished) → resultRoom ≤ length w → length (state .counts) ≡ areas
+        → PlanRan W trees n (n - 1) (blankings (groundOf q)) (state .counts) (Findable s state work) (endRows s state work)
+        → Ended cells s state work w w′ fin
+        → x ≡ handedBy (factsIn s (setWords (closedSets (queryIn s))) cells (fin .added)) q n (state .counts) (fin .joined) → Reported (reportOutcome bs) w w′ x
+    unfolding concludedFor resultAfter
+    ran-gives w w′ state work _ wide long (ran g few each same) (endWritten f m a t) e =
+        ran-written w w′ (endRows s state work) (Findable s state work) (state .counts) (record { joined = J.Rows m; added = 0 }) long few each same m
+        (by-tree (λ (b : Bool) (E : Tree ℕ). endAnswer W b E (endRows s state work) ≡ J.Rows m) a)
+        (subst (λ (i : ℕ). RowsWritten (endedRows W (q .fullOuter) (joinTree q) (endRows s state work)) i w w′ m) (k .table-count)
+        (by-tree (λ (b : Bool) (E : Tree ℕ). RowsWritten (endedRows W b E (endRows s state work)) (s .«table_count») w w′ m) t)) e
+    ran-gives w w′ state work _ wide long (ran g few each same) (endOver f a v) e =
+        ran-over w w′ (endRows s state work) (Findable s state work) (state .counts) (record { joined = J.TooMany; added = 0 }) long few each same
+        (by-tree (λ (b : Bool) (E : Tree ℕ). endAnswer W b E (endRows s state work) ≡ J.TooMany) a) v e
+    ran-gives w w′ state work _ wide long (ran g few each same) (endNone none v) e = absurd (none g wide)
+    ran-gives w w′ state work _ wide long (over i h o none) (endWritten f m a t) e = absurd (none f)
+    ran-gives w w′ state work _ wide long (over i h o none) (endOver f a v) e = absurd (none f)
+    ran-gives w w′ state work _ wide long (over i h o none) (endNone never v) e =
+        reported (refused 11) (outcome-11 (eleven-no i (omega (arith, pairs, h)) o)) e v
+
     pub report-ran : (w w′ : List ℕ) {x : Concluded} → StepsRun cells s w w′ x → Reported (reportOutcome bs) w w′ x
     report-ran w w′ y =
         let same = query-kept ready admitted in
-        ran-gives w w′ (factsIn s (setWords (closedSets (queryIn s))) cells) (y .counts) (y .joined) facts-all (y .long)
-        (subst (λ (m : ℕ). PlanRan W trees m (m - 1) (blankings (groundOf q)) (y .counts) w w′ (y .joined)) (k .table-count)
-        (subst (λ (z : Query). PlanRan W (planTrees (groundOf z)) (s .«table_count») (s .«table_count» - 1) (blankings (groundOf z)) (y .counts) w w′ (y .joined)) same (y .ran)))
-        (y .handed ∙ handed-by s (factsIn s (setWords (closedSets (queryIn s))) cells) (y .counts) (y .joined)
-        ∙ ap₂ (λ (z : Query) (m : ℕ). handedBy (factsIn s (setWords (closedSets (queryIn s))) cells) z m (y .counts) (y .joined)) same (k .table-count))
+        let facts = factsIn s (setWords (closedSets (queryIn s))) cells (y .finished .added) in
+        ran-gives w w′ (y .state) (y .work) (y .finished) (y .wide) (y .long)
+        (subst (λ (m : ℕ). PlanRan W trees m (m - 1) (blankings (groundOf q)) (y .state .counts) (Findable s (y .state) (y .work)) (endRows s (y .state) (y .work))) (k .table-count)
+        (subst (λ (z : Query). PlanRan W (planTrees (groundOf z)) (s .«table_count») (s .«table_count» - 1) (blankings (groundOf z)) (y .state .counts)
+        (Findable s (y .state) (y .work)) (endRows s (y .state) (y .work))) same (y .ran)))
+        (y .ended)
+        (y .handed ∙ handed-by s facts (y .state .counts) (y .finished .joined)
+        ∙ ap₂ (λ (z : Query) (m : ℕ). handedBy facts z m (y .state .counts) (y .finished .joined)) same (k .table-count))

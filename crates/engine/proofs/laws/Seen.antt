@@ -1,12 +1,13 @@
 -- Work space over what is kept of a text is the report's database, with blank entries behind each row; so the rows of the tree are the
 -- definitions' rows. Assumes nothing.
 use mathlib.Core.Path.{_≡_, refl, ap₂, sym, ap, _∙_}
-use mathlib.Core.List.{List, [], map, flatMap}
+use mathlib.Core.Bool.{Bool, true, false}
+use mathlib.Core.List.{List, [], map}
 use Prim.Native.Nat.{ℕ, _-_, _<_, _≤_}
 use native.Mathlib.Omega.{arith}
 use lib.Dec.{T}
 use lib.IntN.{ℤ}
-use lib.ListN.{length, take, getD, length-map}
+use lib.ListN.{getD}
 use Rattle.cells.specs.Condition.{Cells, cellIn, sideIn, trueIn, cellsIn}
 use Rattle.cells.proofs.laws.ConditionLaws.{true-holds}
 use Rattle.cells.specs.Limits.{mostConditions, stride}
@@ -17,7 +18,9 @@ use Rattle.cells.specs.declared.condition.Side.{Side}
 use Rattle.cells.specs.declared.condition.Side.the-variants.{Column, Constant}
 use Rattle.rows.specs.Rows.{ordered}
 use Rattle.rows.specs.Nullification.{Blanking, finished, planRows}
-use Rattle.rows.specs.Trees.{Database, Tree, rowsOf}
+use Rattle.cells.specs.Choice.{if_then_else_}
+use Rattle.rows.specs.Trees.{Database, Tree, leaf, join, rowsOf}
+use Rattle.rows.specs.FullOuter.{rightSide}
 use Rattle.rows.proofs.laws.ShapesLaws.{Lawful, Shaped}
 use Rattle.rows.proofs.laws.TreeLaws.{rows-valid}
 use Rattle.vocabulary.specs.Database.{databaseOf, rowCountIn, cellsOf, database}
@@ -32,9 +35,10 @@ use Rattle.plan.proofs.laws.PlanLaws.{order-built, plan-shaped}
 use Rattle.plan.specs.BlankingLists.{BlankingList}
 use Rattle.joins.specs.inner.Work.{workspace}
 use Rattle.executor.proofs.laws.DatabaseLaws.{lawful, lawful-names, database-width}
-use Rattle.executor.proofs.laws.RunLaws.{run-rows}
-use Rattle.executor.specs.Runs.{runRows, directRows}
-use Rattle.executor.proofs.laws.Padding.{pad, Wide, workspace-pad, finished-wide, finished-pad, flat-pad}
+use Rattle.executor.proofs.laws.RunLaws.{run-rows, ended-whole}
+use Rattle.executor.specs.Runs.{withAdded, ended, rowsBy, runRows}
+use Rattle.executor.specs.inner.Right.{endedRows}
+use Rattle.executor.proofs.laws.Padding.{pad, Wide, workspace-pad, finished-wide, finished-pad, with-added-pad}
 use Rattle.executor.proofs.laws.WidthLaws.{rows-pad}
 
 -- cells that are the same everywhere make the same conditions true
@@ -80,40 +84,66 @@ module _ {s : StoredQuery} {cells : List ℤ} {r : Report} (k : Stands s cells r
     unfolding workspace database databaseOf
     rows-seen E h = rows-pad W laws spare (omega (arith, k .table-count, k .few)) counts (seen spare) E h
 
-    -- the numbers that are handed over after any list of blanking steps are the definitions' rows, row after row
-    module _ (E : Tree ℕ) (h : Shaped laws E) (L : List (Blanking ℕ)) where
-      wide : Wide (tableCount q) (rowsOf (database r) E)
+    -- the rows after any list of blanking steps are the definitions' rows, row after row
+    module _ (E : Tree ℕ) (h : Shaped laws E) where
+      pub rows-wide : Wide (tableCount q) (rowsOf (database r) E)
       unfolding database databaseOf
-      wide row m = rows-valid laws E h row m .len
+      rows-wide row m = rows-valid laws E h row m .len
 
-      finished-seen : finished W L (rowsOf W E) ≡ map (pad spare) (finished (database r) L (rowsOf (database r) E))
-      finished-seen =
-          ap (finished W L) (rows-seen E h) ∙ finished-pad W (database r) spare (tableCount q) (seen spare) L (rowsOf (database r) E) wide
+      pub finished-seen : (L : List (Blanking ℕ)) → finished W L (rowsOf W E) ≡ map (pad spare) (finished (database r) L (rowsOf (database r) E))
+      finished-seen L =
+          ap (finished W L) (rows-seen E h) ∙ finished-pad W (database r) spare (tableCount q) (seen spare) L (rowsOf (database r) E) rows-wide
 
-      pub numbers-seen : flatMap (take (tableCount q)) (finished W L (rowsOf W E)) ≡ flatMap (λ (row : Row). row) (finished (database r) L (rowsOf (database r) E))
-      numbers-seen =
-          ap (flatMap (take (tableCount q))) finished-seen
-          ∙ flat-pad spare (tableCount q) (finished (database r) L (rowsOf (database r) E))
-          (finished-wide (database r) (tableCount q) L (rowsOf (database r) E) wide)
+      pub done-wide : (L : List (Blanking ℕ)) → Wide (tableCount q) (finished (database r) L (rowsOf (database r) E))
+      done-wide L = finished-wide (database r) (tableCount q) L (rowsOf (database r) E) rows-wide
 
-      pub count-seen : length (finished W L (rowsOf W E)) ≡ length (finished (database r) L (rowsOf (database r) E))
-      count-seen = ap length finished-seen ∙ length-map (finished (database r) L (rowsOf (database r) E)) (pad spare)
+      right-shaped : Shaped laws (rightSide E)
+      right-shaped = go E h
+        where
+          go : (F : Tree ℕ) → Shaped laws F → Shaped laws (rightSide F)
+          unfolding rightSide
+          go (leaf t) x = x
+          go (join k C A B) x = x .1
+
+      -- and so they are with the rows of the right side that are added
+      pub added-seen : (rows : List Row) → Wide (tableCount q) rows → withAdded W E (map (pad spare) rows) ≡ map (pad spare) (withAdded (database r) E rows)
+      added-seen rows w = with-added-pad W (database r) spare (tableCount q) E rows (rows-seen (rightSide E) right-shaped) right-wide w
+        where
+          right-wide : Wide (tableCount q) (rowsOf (database r) (rightSide E))
+          unfolding database databaseOf
+          right-wide row m = rows-valid laws (rightSide E) right-shaped row m .len
+
+      pub side-shaped : Shaped laws (rightSide E)
+      side-shaped = right-shaped
 
     module _ (ok : Accepted q) where
       pub query-tree : Shaped laws (joinTree q)
       query-tree = query-shaped q ok laws (database-width q (rowCountIn r) (cellsOf r) small) (lawful-names q (rowCountIn r) (cellsOf r) small)
+
+      -- the rows at the end of a run
+      pub ended-seen : (rows : List Row) → Wide (tableCount q) rows → endedRows W (q .fullOuter) (joinTree q) (map (pad spare) rows) ≡ map (pad spare) (ended r rows)
+      unfolding ended
+      ended-seen rows w = go (q .fullOuter)
+        where
+          go : (b : Bool) → endedRows W b (joinTree q) (map (pad spare) rows) ≡ map (pad spare) (if b then withAdded (database r) (joinTree q) rows else rows)
+          unfolding endedRows
+          go true = added-seen (joinTree q) query-tree rows w
+          go false = refl
 
       module _ (nine : T (question9 q)) where
         pub plan-tree : Shaped laws (planTree (groundOf q))
         plan-tree = plan-shaped (groundOf q) laws (database-width q (rowCountIn r) (cellsOf r) small) (lawful-names q (rowCountIn r) (cellsOf r) small)
             (order-built q (ok .five) nine)
 
-        -- demand 3 over work space: the pairs' rows after any list of blanking steps that document 01 allows, and the tree's rows, are
-        -- the same numbers in the result buffer
+        -- demand 3 over work space: the rows at the end of the pairs' run, after any list of blanking steps that document 01 allows, and those of
+        -- the tree are the same
         pub buffers-agree : (L : List (Blanking ℕ)) → BlankingList (groundOf q) L
-            → flatMap (take (tableCount q)) (finished W L (rowsOf W (planTree (groundOf q)))) ≡ flatMap (take (tableCount q)) (ordered (rowsOf W (joinTree q)))
-        unfolding runRows planRows directRows finished
+            → endedRows W (q .fullOuter) (joinTree q) (finished W L (rowsOf W (planTree (groundOf q))))
+            ≡ endedRows W (q .fullOuter) (joinTree q) (ordered (rowsOf W (joinTree q)))
+        unfolding runRows rowsBy planRows finished
         buffers-agree L list =
-            numbers-seen (planTree (groundOf q)) plan-tree L
-            ∙ ap (flatMap (λ (row : Row). row)) (run-rows r ok small nine L list)
-            ∙ sym (numbers-seen (joinTree q) query-tree [])
+            ap (endedRows W (q .fullOuter) (joinTree q)) (finished-seen (planTree (groundOf q)) plan-tree L)
+            ∙ ended-seen (finished (database r) L (rowsOf (database r) (planTree (groundOf q)))) (done-wide (planTree (groundOf q)) plan-tree L)
+            ∙ ap (map (pad spare)) (run-rows r ok small nine L list ∙ sym (ended-whole r ok small (ordered (rowsOf (database r) (joinTree q))) refl))
+            ∙ sym (ended-seen (ordered (rowsOf (database r) (joinTree q))) (done-wide (joinTree q) query-tree []))
+            ∙ ap (endedRows W (q .fullOuter) (joinTree q)) (sym (finished-seen (joinTree q) query-tree []))

@@ -6,14 +6,13 @@ use Prim.Native.Nat.{ℕ, _+_, _-_}
 use lib.ListN.{length}
 use lib.IntN.{ℤ}
 use Rattle.cells.specs.Row.{Row}
-use Rattle.rows.specs.Rows.{ordered}
-use Rattle.rows.specs.Trees.{Database, rowsOf}
+use Rattle.rows.specs.Trees.{Database}
 use Rattle.vocabulary.specs.Nodes.{treeAt, joinTrees}
 use Rattle.vocabulary.specs.inner.Stored.{queryIn}
 use Rattle.vocabulary.specs.declared.query.StoredQuery.{StoredQuery}
 use Rattle.joins.specs.declared.join.Joined.{Joined}
 use Rattle.joins.specs.declared.join.Joined.the-variants as J
-use Rattle.executor.specs.inner.Reading.{readOf, Handed}
+use Rattle.executor.specs.inner.Right.{WholeHanded}
 use Rattle.engine.specs.Answers.{Outcome, refused, answered}
 use Rattle.engine.specs.Calls.{Lent, written}
 use Rattle.engine.specs.declared.answer.Answer.{Answer}
@@ -47,8 +46,7 @@ elevenOf J.TooMany = Refused 11
 pub record TreeRead (D : Database ℕ) (q : StoredQuery) (w w′ : List ℕ) (a : Answer) : Type 0 where
   pub joined : Joined
   pub answer : a ≡ elevenOf joined
-  pub handed : Handed (readOf D (treeAt (joinTrees (queryIn q)) (q .«table_count» + q .«join_count» - 1)))
-      (ordered (rowsOf D (treeAt (joinTrees (queryIn q)) (q .«table_count» + q .«join_count» - 1)))) (q .«table_count») w w′ joined
+  pub handed : WholeHanded D (q .«full_outer») (treeAt (joinTrees (queryIn q)) (q .«table_count» + q .«join_count» - 1)) (q .«table_count») w w′ joined
 
 -- a count that only an answer with rows keeps
 unfoldable pub ifRows : Answer → ℕ → ℕ

@@ -37,11 +37,12 @@ unfoldable pub withCounts : Plan → List ℕ → ℕ → Plan
 withCounts s counts zero = s
 withCounts s counts (suc k) = withRows (withCounts s counts k) k (getD counts k 0)
 
--- what stands beside the rows of a query: its sets, and the counts of its conditions over the cells of the cell buffer, c
-unfoldable pub factsIn : StoredQuery → List ℕ → List ℤ → Facts
-factsIn q sets c =
+-- what stands beside the rows of a query: its sets, the counts of its conditions over the cells of the cell buffer, c, and how many rows were
+-- added
+unfoldable pub factsIn : StoredQuery → List ℕ → List ℤ → ℕ → Facts
+factsIn q sets c added =
     factsWith (q .«table_count») sets (q .«condition_count»)
-    (talliesIn (rowCounts (q .layout)) (cellsIn c (q .layout)) (q .conditions) (q .«condition_count»))
+    (talliesIn (rowCounts (q .layout)) (cellsIn c (q .layout)) (q .conditions) (q .«condition_count»)) (q .«full_outer») added
 
 -- what is handed over after the run of a plan, s: how many rows there are, what stands beside them, and the plan with the counts of its
 -- pairs; or refusal 11

@@ -2,7 +2,7 @@
 -- link columns that there are. Assumes nothing.
 use mathlib.Core.Path.{_≡_, refl, sym, ap, ap₂, _∙_, subst}
 use mathlib.Core.Logic.{_⊎_, inl, inr, by-cases}
-use mathlib.Core.Bool.{_&&_, not}
+use mathlib.Core.Bool.{Bool, _&&_, not}
 use mathlib.Core.List.{List, [], _∷_, _++_, map}
 use Prim.Native.Nat.{ℕ, _<_, _≤_, _+_}
 use native.Mathlib.Decide.{decLt}
@@ -84,12 +84,15 @@ module _ (q : Query) where
   module _ (well : WellRead q) where
     pub full-read : WellRead f
     unfolding fullQuery withDerived
-    full-read j m = ((λ c n. number-intro f c (let h = number-elim q c (well j m .0 c n) in omega (arith, full-count))), well j m .1)
+    full-read = record {
+      each = λ j m. ((λ c n. number-intro f c (let h = number-elim q c (well .each j m .0 c n) in omega (arith, full-count))), well .each j m .1);
+      last = well .last;
+    }
 
     full-fits : T (joinsFit q) → T (joinsFit f)
     unfolding joinsFit fullQuery withDerived joinNodes nodesOf joinPairs tableNumbers tableCount
     full-fits h = all-intro _ (q .joins) (λ j m. all-intro _ (j .conditions) (λ k n.
-        subst T (ap (conditionFits q (tablesAt (joinNodes q) (j .left) ++ tablesAt (joinNodes q) (j .right))) (sym (written-same k (number-elim q k (well j m .0 k n))))
+        subst T (ap (conditionFits q (tablesAt (joinNodes q) (j .left) ++ tablesAt (joinNodes q) (j .right))) (sym (written-same k (number-elim q k (well .each j m .0 k n))))
         ∙ sym (fits-same (tablesAt (joinNodes q) (j .left) ++ tablesAt (joinNodes q) (j .right)) (conditionAt f k)))
         (all-elim _ (j .conditions) (all-elim _ (q .joins) h j m) k n)))
 
@@ -98,7 +101,7 @@ module _ (q : Query) where
     full-crosses h = all-intro _ (q .joins) (λ j m.
         let (k, n, x) = any-elim _ (j .conditions) (all-elim _ (q .joins) h j m) in
         any-intro _ n (subst (λ (c : Condition). T (crosses c (tablesAt (joinNodes q) (j .left)) (tablesAt (joinNodes q) (j .right))))
-        (sym (written-same k (number-elim q k (well j m .0 k n)))) x))
+        (sym (written-same k (number-elim q k (well .each j m .0 k n)))) x))
 
   -- questions 5 to 7 do not turn it down either
   pub full-accepted : Accepted q → Accepted f
@@ -186,12 +189,12 @@ full-exist q exist k l m = part (append-elim (q .conditions) at)
 
 -- ---- the derived conditions do not depend on the order
 
-module _ (columns : List ℕ) (joins : List Join) (conditions : List Condition) (a b : List Pair) where
+module _ (columns : List ℕ) (joins : List Join) (conditions : List Condition) (a b : List Pair) (x y : Bool) where
   abbrev first : Query
-  first = record { columns = columns; joins = joins; conditions = conditions; pairs = a }
+  first = record { columns = columns; joins = joins; conditions = conditions; pairs = a; fullOuter = x }
 
   abbrev second : Query
-  second = record { columns = columns; joins = joins; conditions = conditions; pairs = b }
+  second = record { columns = columns; joins = joins; conditions = conditions; pairs = b; fullOuter = y }
 
   sets-order : (nodes : List (List ℕ)) (js : List Join) (S : Sets) → setsBy first nodes js S ≡ setsBy second nodes js S
   unfolding setsBy setsAfter setAfter taken conditionNumbers namedBy conditionAt tableNumbers tableCount
@@ -207,6 +210,6 @@ pub full-same : (q r : Query) → q .columns ≡ r .columns → q .joins ≡ r .
     → fullQuery q .conditions ≡ fullQuery r .conditions
 full-same q r c j d =
     ap (λ (z : Query). fullQuery z .conditions)
-    (let x : record { columns = q .columns; joins = q .joins; conditions = q .conditions; pairs = q .pairs }
-    ≡ record { columns = r .columns; joins = r .joins; conditions = r .conditions; pairs = q .pairs } = rw (c, j, d) in x)
-    ∙ full-order (r .columns) (r .joins) (r .conditions) (q .pairs) (r .pairs)
+    (let x : record { columns = q .columns; joins = q .joins; conditions = q .conditions; pairs = q .pairs; fullOuter = q .fullOuter }
+    ≡ record { columns = r .columns; joins = r .joins; conditions = r .conditions; pairs = q .pairs; fullOuter = q .fullOuter } = rw (c, j, d) in x)
+    ∙ full-order (r .columns) (r .joins) (r .conditions) (q .pairs) (r .pairs) (q .fullOuter) (r .fullOuter)

@@ -70,12 +70,12 @@ module _ (q : Query) (ok : Accepted q) where
   unfolding joinsFit question7
   join-fits j m = record {
     tied = record {
-      numbered = ok .read j m .0;
+      numbered = ok .read .each j m .0;
       inside = λ y c n t k. append-elim (tablesAt (joinNodes q) (j .left)) (fits-inside q ts (conditionAt q c) (six c n) t k);
       across = λ y. let (c, n, h) = any-elim _ (j .conditions) seven in
           (c, n, crosses-across (tablesAt (joinNodes q) (j .left)) (tablesAt (joinNodes q) (j .right)) (conditionAt q c) h);
     };
-    plain = ok .read j m .1;
+    plain = ok .read .each j m .1;
   }
     where
       ts : List ℕ

@@ -35,6 +35,14 @@ pub refusal-line : (n : ℕ) → printRefusal n ≡ bytes "E" ++ printedNumber n
 unfolding printRefusal printFields printedNumber printedField bytes
 refusal-line n = refl
 
+pub added-line : (b : Bool) (n : ℕ) → b ≡ true → printAdded (addedIn b n) ≡ bytes "F" ++ printedNumber n ++ (lineFeed ∷ [])
+unfolding printAdded addedIn printFields printedNumber printedField bytes
+added-line b n e = ap (λ (z : Bool). printAdded (addedIn z n)) e
+
+pub no-added-line : (b : Bool) (n : ℕ) → b ≡ false → printAdded (addedIn b n) ≡ []
+unfolding printAdded addedIn
+no-added-line b n e = ap (λ (z : Bool). printAdded (addedIn z n)) e
+
 -- ---- a step's line, by its kind
 
 pub pair-line : (s : Step) → s .kind ≤ 3 → printStep s

@@ -18,11 +18,11 @@ use Rattle.vocabulary.specs.declared.facts.Facts.{Facts}
 use Rattle.vocabulary.specs.declared.facts.Tally.{Tally}
 use Rattle.vocabulary.specs.declared.step.Step.{Step}
 use Rattle.text.specs.Bytes.{Bytes, bytes, lineFeed, tab}
-use Rattle.text.specs.Print.{digitsOf, printNumber, printEntry, bitNumbers, printFields, printSets, printTally, printTallies, printRow, printRefusal, kindLetter, printStep}
-use Rattle.print.specs.inner.Room.{fieldRoom, bitsRoom, endRoom, tableRoom, tallyRoom, rowRoom, refusalRoom, stepRoom, reportRoom}
+use Rattle.text.specs.Print.{digitsOf, printNumber, printEntry, bitNumbers, printFields, printSets, printTally, printTallies, printRow, printRefusal, kindLetter, printStep, printAdded}
+use Rattle.print.specs.inner.Room.{fieldRoom, bitsRoom, endRoom, tableRoom, tallyRoom, rowRoom, refusalRoom, stepRoom, addedRoom, reportRoom}
 use Rattle.print.specs.inner.Fields.{printedField, printedNumber, entryField}
-use Rattle.print.proofs.laws.Lines.{end-line, tally-line, row-line, refusal-line}
-use Rattle.print.specs.inner.Printed.{reportBytes}
+use Rattle.print.proofs.laws.Lines.{end-line, tally-line, row-line, refusal-line, added-line, no-added-line}
+use Rattle.print.specs.inner.Printed.{addedIn, reportBytes}
 
 -- ---- lists
 
@@ -125,6 +125,11 @@ pub refusal-room : (n : ℕ) → length (printRefusal n) ≤ refusalRoom
 unfolding bytes
 refusal-room n = rw (refusal-line n) (omega (arith, length-append (printedNumber n) (lineFeed ∷ []), number-room n))
 
+pub added-room : (b : Bool) (n : ℕ) → length (printAdded (addedIn b n)) ≤ addedRoom
+unfolding bytes
+added-room true n = rw (added-line true n refl) (omega (arith, length-append (printedNumber n) (lineFeed ∷ []), number-room n))
+added-room false n = rw (no-added-line false n refl) (omega arith)
+
 kind-room : (k : ℕ) → length (kindLetter k) ≤ 1
 unfolding kindLetter bytes
 kind-room zero = omega arith
@@ -191,10 +196,13 @@ report-room f steps rows a u b c h =
     let S : Bytes = printSets 0 (take (f .tables) (f .sets)) in
     let U : Bytes = printTallies 0 (firstTallies f (f .conditions)) in
     let P : Bytes = flatMap printStep steps in
+    let F : Bytes = printAdded (addedIn (f .«full_outer») (f .added)) in
     let R : Bytes = flatMap printRow rows in
     omega (
       arith,
-      length-append (S ++ U ++ P) R,
+      length-append (S ++ U ++ P ++ F) R,
+      length-append (S ++ U ++ P) F,
+      added-room (f .«full_outer») (f .added),
       length-append (S ++ U) P,
       length-append S U,
       sets-room 0 (take (f .tables) (f .sets)),

@@ -1,7 +1,8 @@
 -- The print of an answer as a call leaves it: what is answered and what the output then holds. Document 01, "The whole print of one
 -- report". Specification 10.12, 11.3. Assumes nothing.
-use mathlib.Core.Bool.{Bool, _&&_}
+use mathlib.Core.Bool.{Bool, true, false, _&&_}
 use mathlib.Core.List.{List, _++_, flatMap}
+use mathlib.Core.Option.{Option, none, some}
 use mathlib.Core.Path.{_≡_}
 use Prim.Native.Nat.{ℕ, _*_, _≤_}
 use lib.Dec.{leb, ltb}
@@ -13,14 +14,23 @@ use Rattle.vocabulary.specs.Facts.{firstTallies}
 use Rattle.vocabulary.specs.declared.facts.Facts.{Facts}
 use Rattle.vocabulary.specs.declared.step.Step.{Step}
 use Rattle.text.specs.Bytes.{Bytes}
-use Rattle.text.specs.Print.{printSets, printTallies, printStep, printRow}
+use Rattle.text.specs.Print.{printSets, printTallies, printStep, printAdded, printRow}
 use Rattle.print.specs.declared.whole.Printed.{Printed}
 use Rattle.print.specs.declared.whole.Printed.the-variants.{Bytes as Wrote, NoRoom, Unfit}
+
+-- how many rows were added, where the last join is a full outer one. Specification 10.14
+unfoldable pub addedIn : Bool → ℕ → Option ℕ
+addedIn true n = some n
+addedIn false n = none
 
 -- the lines of an answer of the engine. Specification 11.3
 unfoldable pub reportBytes : Facts → List Step → List Row → Bytes
 reportBytes f steps rows =
-    printSets 0 (take (f .tables) (f .sets)) ++ printTallies 0 (firstTallies f (f .conditions)) ++ flatMap printStep steps ++ flatMap printRow rows
+    printSets 0 (take (f .tables) (f .sets))
+    ++ printTallies 0 (firstTallies f (f .conditions))
+    ++ flatMap printStep steps
+    ++ printAdded (addedIn (f .«full_outer») (f .added))
+    ++ flatMap printRow rows
 
 -- whether so many tables and rows are those of an answer, and the rows stand in so many numbers. Specification 10.13
 unfoldable pub rowsFit : ℕ → ℕ → ℕ → Bool

@@ -35,6 +35,10 @@ bestMatchRoom = 1 + 1
 abbrev pub stepRoom : ℕ
 stepRoom = 1 + kindRoom + 2 * fieldRoom + endRoom
 
+-- the line of the rows that were added
+abbrev pub addedRoom : ℕ
+addedRoom = 1 + fieldRoom + 1
+
 -- a row's line, of an entry for each table
 abbrev pub rowRoom : ℕ
 rowRoom = 1 + mostTables * fieldRoom + 1
@@ -45,4 +49,4 @@ refusalRoom = 1 + fieldRoom + 1
 
 -- the lines of an answer (`report-room` of RoomLaws); an output has more, `printRoom` of Limits. Specification 10.12
 abbrev pub reportRoom : ℕ
-reportRoom = tableRoom * mostTables + tallyRoom * mostConditions + stepRoom * mostSteps + rowRoom * mostRows
+reportRoom = tableRoom * mostTables + tallyRoom * mostConditions + stepRoom * mostSteps + addedRoom + rowRoom * mostRows

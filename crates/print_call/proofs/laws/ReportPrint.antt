@@ -2,6 +2,7 @@
 use mathlib.Core.Path.{_≡_, refl, ap, sym, _∙_, subst, ap₂}
 use mathlib.Core.Bool.{Bool, true, false, and-true}
 use mathlib.Core.List.{List, [], _∷_, _++_, map, flatMap}
+use mathlib.Core.Option.{Option, none, some}
 use Prim.Native.Nat.{ℕ, zero, suc, _-_, _≤_}
 use native.Mathlib.Omega.{arith}
 use lib.ListN.{length, getD, take, replicate}
@@ -16,15 +17,15 @@ use Rattle.vocabulary.specs.declared.facts.Facts.{Facts}
 use Rattle.vocabulary.specs.declared.facts.Tally.{Tally}
 use Rattle.vocabulary.specs.declared.step.Step.{Step}
 use Rattle.text.specs.Bytes.{Bytes}
-use Rattle.text.specs.Print.{printSets, printTallies, printStep, printRow, printRefusal}
+use Rattle.text.specs.Print.{printSets, printTallies, printStep, printAdded, printRow, printRefusal}
 use Rattle.print.specs.inner.Rows.{resultRows}
-use Rattle.print.specs.inner.Printed.{reportBytes, fitting, Prints}
+use Rattle.print.specs.inner.Printed.{addedIn, reportBytes, fitting, Prints}
 use Rattle.print.specs.inner.Printed as P
 use Rattle.print.proofs.laws.PrintedLaws.{facts-fitting, printed-bytes}
 use Rattle.print.specs.declared.whole.Printed.{Printed}
 use Rattle.engine.specs.Answers.{answered, ReportAnswer, Outcome, refused, reportOutcome}
 use Rattle.engine.proofs.laws.Bounds.{Bounded, report-bounded}
-use Rattle.engine.specs.Calls.{factsOf, Lent, question1Direct, question1, written, cleared, laidOut, ReportCall, reportAfter, reportCall}
+use Rattle.engine.specs.Calls.{counted, countOr0, factsOf, Lent, question1Direct, question1, written, cleared, laidOut, ReportCall, reportAfter, reportCall}
 use Rattle.engine.specs.Programs.{printReport, reportProgram}
 use Rattle.engine.specs.declared.answer.Answer.the-variants.{Rows, Refused}
 use Rattle.print_call.specs.PrintedCalls.{printed, printCall, printReportCall}
@@ -47,12 +48,20 @@ tallies-again ts m =
     (λ i k. record { holds = beside (λ (t : Tally). t .holds) ts m k refl i; fails = beside (λ (t : Tally). t .fails) ts m k refl i; unknown = beside (λ (t : Tally). t .unknown) ts m k refl i })
     ∙ sym (take-range noTally ts (length ts) (omega arith)) ∙ take-length ts
 
+-- the count of rows that were added, read back
+added-again : (n : Option ℕ) → addedIn (counted n) (countOr0 n) ≡ n
+unfolding addedIn counted countOr0
+added-again none = refl
+added-again (some n) = refl
+
 -- what is printed of an answer, from what stands beside it
 pub answer-printed : (a : ReportAnswer) → reportBytes (factsOf a) (a .steps) (a .rows) ≡ printReport (answered a)
 unfolding reportBytes factsOf firstTallies printReport
 answer-printed a =
-    ap₂ (λ (sets : List ℕ) (ts : List Tally). printSets 0 sets ++ printTallies 0 ts ++ flatMap printStep (a .steps) ++ flatMap printRow (a .rows))
+    ap₂ (λ (sets : List ℕ) (ts : List Tally). printSets 0 sets ++ printTallies 0 ts ++ flatMap printStep (a .steps)
+    ++ printAdded (addedIn (counted (a .added)) (countOr0 (a .added))) ++ flatMap printRow (a .rows))
     (take-at (a .sets) _ (length (a .sets)) refl) (tallies-again (a .tallies) (mostConditions - length (a .tallies)))
+    ∙ ap (λ (n : Option ℕ). printSets 0 (a .sets) ++ printTallies 0 (a .tallies) ++ flatMap printStep (a .steps) ++ printAdded n ++ flatMap printRow (a .rows)) (added-again (a .added))
 
 module _ (text : Bytes) (m : Lent) where
   abbrev none-yet : List Step

@@ -30,12 +30,19 @@ put-requires c κs = search needs
 put-tallies-requires : tie.Need-put-tallies-requires
 put-tallies-requires c κs = search needs
 
+cast-put-added : tie.Need-cast-put-added
+cast-put-added c = search needs
+
+put-added-requires : tie.Need-put-added-requires
+put-added-requires c κs = search needs
+
 same-length : tie.Need-same-length
 same-length c = search needs
 
 returns : tie.Need-returns
 returns c =
-    let t = c .before .before in
+    let a = c .before .before in
+    let t = a .before .before .before .before in
     let n = t .before .before .before .before .before .before .before in
     let s = n .before .before .before .before in
     let m = s .before .before .before .before in
@@ -43,8 +50,10 @@ returns c =
     let r = k .before .before .before in
     written-as (answer-parts _ _ _ _ (r .rows-of .ensures) (r .before .status-of .ensures)) (omega arith)
     (written-then
+    (written-then
     (written-then (written-then (written-then (k .put-counts .ensures) (m .put-sets .ensures)) (s .put-steps .ensures)) (n .put .ensures))
     (t .put-tallies .ensures))
+    (a .put-added .ensures))
 
 pub put-answer-spec : {M : Type 1} → statement M
 put-answer-spec =
@@ -58,5 +67,7 @@ put-answer-spec =
     put-steps-requires
     put-requires
     put-tallies-requires
+    cast-put-added
+    put-added-requires
     same-length
     returns)

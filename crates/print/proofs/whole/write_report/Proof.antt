@@ -17,6 +17,12 @@ write-tallies-requires c κs = search needs
 write-steps-requires : tie.Need-write-steps-requires
 write-steps-requires c κs = search needs
 
+cast-write-added : tie.Need-cast-write-added
+cast-write-added c = search needs
+
+write-added-requires : tie.Need-write-added-requires
+write-added-requires c κs = search needs
+
 write-rows-requires : tie.Need-write-rows-requires
 write-rows-requires c κs = search needs
 
@@ -27,14 +33,15 @@ returns : tie.Need-returns
 unfolding reportBytes firstTallies
 returns c =
     let r = c .before .before in
-    let s = r .before .before .before .before in
+    let f = r .before .before .before .before in
+    let s = f .before .before .before .before .before in
     let u = s .before .before .before .before in
     let t = u .before .before .before .before .before .before .before in
     let h = t .before .before .before .before .before .pre .0 in
     written-as refl (omega (arith, h .rows-fit .tables-few, h .conditions-few, h .rows-fit .rows-few, h .steps-few))
-    (written-then (written-then (written-then (t .write-sets .ensures) (u .write-tallies .ensures)) (s .write-steps .ensures)) (r .write-rows .ensures))
+    (written-then (written-then (written-then (written-then (t .write-sets .ensures) (u .write-tallies .ensures)) (s .write-steps .ensures)) (f .write-added .ensures)) (r .write-rows .ensures))
 
 pub write-report-spec : {M : Type 1} → statement M
 write-report-spec =
     tie.close
-    (tie.spec write-sets-requires write-tallies-requires write-steps-requires write-rows-requires same-length returns)
+    (tie.spec write-sets-requires write-tallies-requires write-steps-requires cast-write-added write-added-requires write-rows-requires same-length returns)
