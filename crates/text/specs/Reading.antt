@@ -91,12 +91,10 @@ conditionsOf (joinLine k a b ∷ ls) = conditionsOf ls
 conditionsOf (conditionLine c ∷ ls) = c ∷ conditionsOf ls
 
 -- whether there is a full outer join, which then is the last J line. Specification 2.17
--- LEAD'S NOTE, take this line out: the definition was changed by the lead to a fold over the J lines ("the last J line is of kind F"), so that
--- WellRead can have `last` for every list of lines: read NOTE-READ-THIS.md at the root of this clone. `fullOuterOf` with || is gone.
-unfoldable pub fullOuterFrom : Bool → List JoinLine → Bool
-fullOuterFrom f [] = f
-fullOuterFrom f (joinLine k a b ∷ ls) = fullOuterFrom (isFullOuter k) ls
-fullOuterFrom f (conditionLine c ∷ ls) = fullOuterFrom f ls
+unfoldable pub fullOuterOf : List JoinLine → Bool
+fullOuterOf [] = false
+fullOuterOf (joinLine k a b ∷ ls) = isFullOuter k || fullOuterOf ls
+fullOuterOf (conditionLine c ∷ ls) = fullOuterOf ls
 
 -- the pairs of the P lines. Specification 2.13
 unfoldable pub pairsOf : List OrderLine → List Pair
@@ -121,7 +119,7 @@ pairsIn ls = pairsOf (orderLines ls)
 
 -- Specification 2.17
 abbrev pub fullOuterIn : List Line → Bool
-fullOuterIn ls = fullOuterFrom false (joinLines ls)
+fullOuterIn ls = fullOuterOf (joinLines ls)
 
 -- Specification 2.9, 2.10, 2.13, 2.17
 unfoldable pub reportOf : List Line → Report
