@@ -137,12 +137,12 @@ module _ (r : Report) (well : WellRead (queryOf r)) (yes : firstNo plainShared r
   module _ (nine : T (question9 q)) where
     -- the plan with the blanking steps of document 01's rule has the rows of the plan with all
     plans-same : planRows (database r) (planTree (formerGround q)) (formerBlankings (formerGround q)) ≡ planRows (database r) (planTree (plainGround q)) (blankings (plainGround q))
+    unfolding database
     plans-same =
         ap (λ (g : Ground). planRows (database r) (planTree g) (formerBlankings g)) ground ∙ tree
         ∙ sym (plain-planned r ok small nine (blankings (plainGround q)) (own-list (plainGround q)))
       where
         tree : planRows (database r) (planTree (plainGround q)) (formerBlankings (plainGround q)) ≡ ordered (rowsOf (database r) (joinTree q))
-        unfolding database
         tree = former-rows q ok (lawful q (rowCountIn r) (cellsOf r) small) (database-width q (rowCountIn r) (cellsOf r) small)
             (lawful-names q (rowCountIn r) (cellsOf r) small) nine
 

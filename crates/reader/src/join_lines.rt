@@ -8,14 +8,13 @@ use rows::kind::Kind;
 use text::line::LineRead;
 use vocabulary::query::StoredJoin;
 ghost use mathlib.Core.Path.{_≡_};
-ghost use mathlib.Core.Bool.{_||_};
 ghost use Prim.Native.Nat.{_+_, _-_, _<_};
 ghost use lib.ListN.{set};
 ghost use Rattle.reader.specs.inner.State.{noJoins, nothing, noConditions, afterJoin, afterCondition};
 ghost use Rattle.reader.specs.inner.Survey.{conditionPlace, conditionIn};
 
-// The joins before the latest, the latest, how many conditions there are, which stand in an array of their own, and whether there is a
-// full outer join.
+// The joins before the latest, the latest, how many conditions there are, which stand in an array of their own, and whether the latest is a
+// full outer one.
 pub struct Joins {
     pub count: u16,
     pub joins: [StoredJoin; JOINS],
@@ -109,22 +108,11 @@ pub(crate) fn condition_in(x: LineRead) -> Condition
     }
 }
 
-// Whether there is a full outer join: before a J line, or that line.
-fn either(before: bool, this: bool) -> bool
-    ensures { λ r. ⌜ r ≡ (before || this) ⌝ }
-{
-    if before {
-        return true;
-    }
-    this
-}
-
 // A J line more.
-pub(crate) fn after_join(s: Joins, kind: Kind, left: u16, right: u16, this: bool) -> Joins
+pub(crate) fn after_join(s: Joins, kind: Kind, left: u16, right: u16, full_outer: bool) -> Joins
     requires { ⌜ s .count < 65535 ⌝ }
-    ensures { λ r. ⌜ r ≡ afterJoin s kind left right this ⌝ }
+    ensures { λ r. ⌜ r ≡ afterJoin s kind left right «full_outer» ⌝ }
 {
-    let full_outer = either(s.full_outer, this);
     let count = s.count;
     let latest = s.latest;
     let before = s.joins;

@@ -1,6 +1,6 @@
 -- The report that a text says: document 01, "Report text", and document 02, item 7. Specification 2.8, 2.9, 2.10, 2.13, 2.16, 2.17.
 -- Assumes nothing.
-use mathlib.Core.Bool.{Bool, true, false, _||_}
+use mathlib.Core.Bool.{Bool, true, false}
 use mathlib.Core.List.{List, [], _∷_}
 use mathlib.Core.Option.{Option, none, some}
 use Prim.Native.Nat.{ℕ, suc}
@@ -90,11 +90,11 @@ conditionsOf [] = []
 conditionsOf (joinLine k a b ∷ ls) = conditionsOf ls
 conditionsOf (conditionLine c ∷ ls) = c ∷ conditionsOf ls
 
--- whether there is a full outer join, which then is the last J line. Specification 2.17
-unfoldable pub fullOuterOf : List JoinLine → Bool
-fullOuterOf [] = false
-fullOuterOf (joinLine k a b ∷ ls) = isFullOuter k || fullOuterOf ls
-fullOuterOf (conditionLine c ∷ ls) = fullOuterOf ls
+-- "The last J may be kind `F`": whether the last of these J lines is a full outer join; f where there is none. Specification 2.17
+unfoldable pub fullOuterFrom : Bool → List JoinLine → Bool
+fullOuterFrom f [] = f
+fullOuterFrom f (joinLine k a b ∷ ls) = fullOuterFrom (isFullOuter k) ls
+fullOuterFrom f (conditionLine c ∷ ls) = fullOuterFrom f ls
 
 -- the pairs of the P lines. Specification 2.13
 unfoldable pub pairsOf : List OrderLine → List Pair
@@ -119,7 +119,7 @@ pairsIn ls = pairsOf (orderLines ls)
 
 -- Specification 2.17
 abbrev pub fullOuterIn : List Line → Bool
-fullOuterIn ls = fullOuterOf (joinLines ls)
+fullOuterIn ls = fullOuterFrom false (joinLines ls)
 
 -- Specification 2.9, 2.10, 2.13, 2.17
 unfoldable pub reportOf : List Line → Report

@@ -131,11 +131,10 @@ ended-few r rows h t = go (queryOf r .fullOuter) t
     go false x = h
 
 ended-each : (r : Report) (n : ℕ) (rows : List Row) → Wide n rows → Wide n (rowsOf (database r) (rightSide (joinTree (queryOf r)))) → Wide n (ended r rows)
-unfolding ended
+unfolding ended withAdded ordered added
 ended-each r n rows w v = go (queryOf r .fullOuter)
   where
     go : (b : Bool) → Wide n (if b then withAdded (database r) (joinTree (queryOf r)) rows else rows)
-    unfolding withAdded ordered added
     go true row m = ⊎-elim (w row) (λ h. v row (keep-elim _ (rowsOf (database r) (rightSide (joinTree (queryOf r)))) h .0)) (append-elim rows (sort-elim before _ m))
     go false = w
 
@@ -190,12 +189,11 @@ module _ (r : Report) (well : WellRead (queryOf r)) (accepted : firstNo sharedQu
       (ended-few r read (omega (arith, length-ordered (rowsOf (database r) (joinTree q)), z)) (subst (λ (l : List Row). T (totalWithin r l)) (sym e) b))
 
   pub direct-wide : (row : Row) → row isIn directRows r → length row ≡ tableCount q
-  unfolding finished
+  unfolding finished database databaseOf
   direct-wide = subst (Wide (tableCount q)) (ended-whole r ok small read refl)
       (ended-each r (tableCount q) read (finished-wide (database r) (tableCount q) [] (rowsOf (database r) (joinTree q)) (tree-wide (joinTree q) tree)) (tree-wide (rightSide (joinTree q)) (right-shaped laws (joinTree q) tree)))
     where
       tree-wide : (E : Tree ℕ) → Shaped laws E → Wide (tableCount q) (rowsOf (database r) E)
-      unfolding database databaseOf
       tree-wide E s row m = rows-valid laws E s row m .len
 
 -- ---- the plan of a report, given all its conditions
@@ -239,7 +237,7 @@ module _ (r : Report) (ok : Accepted (queryOf r)) (few-tables : tableCount (quer
       ended-few r rows (omega (arith, finished-fewer (database r) (blankings g) (rowsOf (database r) (planTree g)), z)) c
 
   pub report-wide : (row : Row) → row isIn reportRows r → length row ≡ tableCount p
-  unfolding reportRows runRows rowsBy planRows
+  unfolding reportRows runRows rowsBy planRows database databaseOf
   report-wide = ended-each r (tableCount p) (finished (database r) (blankings (groundOf p)) (rowsOf (database r) (planTree (groundOf p))))
       (finished-wide (database r) (tableCount p) (blankings (groundOf p)) (rowsOf (database r) (planTree (groundOf p))) (tree-wide (planTree (groundOf p)) planned))
       (tree-wide (rightSide (joinTree p)) (right-shaped plan-laws (joinTree p) tree-here))
@@ -251,12 +249,11 @@ module _ (r : Report) (ok : Accepted (queryOf r)) (few-tables : tableCount (quer
       tree-here = query-shaped p ok plan-laws (database-width p (rowCountIn r) (cellsOf r) no-blank) (lawful-names p (rowCountIn r) (cellsOf r) no-blank)
 
       tree-wide : (E : Tree ℕ) → Shaped plan-laws E → Wide (tableCount p) (rowsOf (database r) E)
-      unfolding database databaseOf
       tree-wide E s row m = rows-valid plan-laws E s row m .len
 
   -- no more rows are added than there are in all
   pub added-few : T (question11 r) → countOr0 (reportAdded r) ≤ mostRows
-  unfolding reportAdded addedCount addedTo countOr0 reportRows runRows rowsBy ended
+  unfolding reportAdded addedCount addedTo countOr0 reportRows runRows rowsBy ended withAdded
   added-few h = go (p .fullOuter) (report-few h)
     where
       planned : List Row
@@ -267,7 +264,6 @@ module _ (r : Report) (ok : Accepted (queryOf r)) (few-tables : tableCount (quer
 
       go : (b : Bool) → length (if b then withAdded (database r) (joinTree p) planned else planned) ≤ mostRows
           → countOr0 (if b then some (length (if b then more else [])) else none) ≤ mostRows
-      unfolding withAdded countOr0 more
       go true x = omega (arith, x, length-ordered (planned ++ more), length-append planned more)
       go false x = omega arith
 

@@ -100,11 +100,10 @@ module _ {s : StoredQuery} {cells : List ℤ} {r : Report} (ready : Ready s cell
   -- how many rows there are at the end, or that there are too many, is what question 11 says of the right side and of the total
   pub end-answer : (rows : List Row) → Wide (tableCount q) rows → endAnswer W (q .fullOuter) (joinTree q) (padded rows)
       ≡ (if rightWithin r && totalWithin r (ended r rows) then J.Rows (length (ended r rows)) else J.TooMany)
-  unfolding rightWithin totalWithin ended
+  unfolding rightWithin totalWithin ended thenAnswer withAdded endAnswer answerOf
   end-answer rows w = go (q .fullOuter)
     where
       both : (a c : Bool) (n m : ℕ) → thenAnswer (if a then J.Rows n else J.TooMany) (if c then J.Rows m else J.TooMany) ≡ (if a && c then J.Rows m else J.TooMany)
-      unfolding thenAnswer
       both true c n m = refl
       both false c n m = refl
 
@@ -113,14 +112,12 @@ module _ {s : StoredQuery} {cells : List ℤ} {r : Report} (ready : Ready s cell
       all-rows = padded rows ++ added (tablesUnder (rightSide (joinTree q))) (rowsOf W (rightSide (joinTree q))) (padded rows)
 
       count : length all-rows ≡ length (withAdded (database r) (joinTree q) rows)
-      unfolding all-rows withAdded
       count = sym (length-ordered all-rows) ∙ ap length (added-seen k (ready .conditions) small (joinTree q) tree rows w) ∙ length-map (withAdded (database r) (joinTree q) rows) (pad _)
 
       go : (b : Bool) → endAnswer W b (joinTree q) (padded rows)
           ≡ (if (if b then withinTree (database r) (rightSide (joinTree q)) else true)
           && (if b then leb (length (if b then withAdded (database r) (joinTree q) rows else rows)) mostRows else true)
           then J.Rows (length (if b then withAdded (database r) (joinTree q) rows else rows)) else J.TooMany)
-      unfolding endAnswer answerOf all-rows
       go true =
           ap₂ thenAnswer
           (read-answer W (rightSide (joinTree q))
@@ -149,11 +146,10 @@ module _ {s : StoredQuery} {cells : List ℤ} {r : Report} (ready : Ready s cell
 
   -- a tree whose joins have few rows has a right side whose joins have
   right-too : T (withinTree (database r) (joinTree q)) → T (rightWithin r)
-  unfolding rightWithin
+  unfolding rightWithin withinTree rightSide
   right-too h = go (q .fullOuter) (side (joinTree q) h)
     where
       side : (E : Tree ℕ) → T (withinTree (database r) E) → T (withinTree (database r) (rightSide E))
-      unfolding withinTree rightSide
       side (leaf t) x = tt
       side (join i C A B) x =
           let (a, _) = and-yes (withinTree (database r) A && withinTree (database r) B) _ x in
@@ -166,7 +162,7 @@ module _ {s : StoredQuery} {cells : List ℤ} {r : Report} (ready : Ready s cell
   -- what the direct reading answers is what question 11 says
   pub direct-answer : thenAnswer (readOf W (joinTree q)) (endAnswer W (q .fullOuter) (joinTree q) (ordered (rowsOf W (joinTree q))))
       ≡ (if question11Direct r then J.Rows (length (directRows r)) else J.TooMany)
-  unfolding question11Direct
+  unfolding question11Direct thenAnswer
   direct-answer =
       ap₂ thenAnswer (read-answer W (joinTree q))
       (ap (endAnswer W (q .fullOuter) (joinTree q)) tree-seen ∙ end-answer treeRows tree-wide
@@ -177,7 +173,6 @@ module _ {s : StoredQuery} {cells : List ℤ} {r : Report} (ready : Ready s cell
       both : (a c t : Bool) → (T a → T c)
           → thenAnswer (if a then J.Rows (length (rowsOf W (joinTree q))) else J.TooMany) (if c && t then J.Rows (length (directRows r)) else J.TooMany)
           ≡ (if a && t then J.Rows (length (directRows r)) else J.TooMany)
-      unfolding thenAnswer
       both true true t h = refl
       both true false t h = absurd (h tt)
       both false c t h = refl
@@ -188,11 +183,10 @@ module _ {s : StoredQuery} {cells : List ℤ} {r : Report} (ready : Ready s cell
 
   -- rows at the end have an entry for each table
   pub ended-wide : (rows : List Row) → Wide (tableCount q) rows → Wide (tableCount q) (ended r rows)
-  unfolding ended
+  unfolding ended withAdded ordered added
   ended-wide rows w = go (q .fullOuter)
     where
       go : (b : Bool) → Wide (tableCount q) (if b then withAdded (database r) (joinTree q) rows else rows)
-      unfolding withAdded ordered added
       go true row m = ⊎-elim (w row)
           (λ h. rows-wide k (ready .conditions) small (rightSide (joinTree q)) (side-shaped k (ready .conditions) small (joinTree q) tree) row (keep-elim _ (rowsOf (database r) (rightSide (joinTree q))) h .0))
           (append-elim rows (sort-elim before _ m))
@@ -260,7 +254,7 @@ module _ {s : StoredQuery} {cells : List ℤ} {r : Report} (ready : Ready s cell
     -- how many rows were added
     pub report-added : (counted (reportAdded r) ≡ q .fullOuter)
         × (length (reportRows r) - length (finished W (blankings (groundOf q)) (rowsOf W (planTree (groundOf q)))) ≡ countOr0 (reportAdded r))
-    unfolding reportAdded addedCount addedTo reportRows runRows rowsBy ended
+    unfolding reportAdded addedCount addedTo reportRows runRows rowsBy ended counted countOr0 withAdded
     report-added =
         let n : length (finished W (blankings (groundOf q)) (rowsOf W (planTree (groundOf q)))) ≡ length planned = ap length plan-seen ∙ length-map planned (pad _) in
         (kind (q .fullOuter), rw n (go (q .fullOuter)))
@@ -269,12 +263,10 @@ module _ {s : StoredQuery} {cells : List ℤ} {r : Report} (ready : Ready s cell
         more = added (tablesUnder (rightSide (joinTree q))) (rowsOf (database r) (rightSide (joinTree q))) planned
 
         kind : (b : Bool) → counted (if b then some (length (if b then more else [])) else none) ≡ b
-        unfolding counted
         kind true = refl
         kind false = refl
 
         go : (b : Bool) → length (if b then withAdded (database r) (joinTree q) planned else planned) - length planned
             ≡ countOr0 (if b then some (length (if b then more else [])) else none)
-        unfolding countOr0 withAdded more
         go true = omega (arith, length-ordered (planned ++ more), length-append planned more)
         go false = omega arith

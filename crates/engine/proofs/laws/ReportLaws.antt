@@ -300,7 +300,7 @@ module _ (bs : Bytes) {s : StoredQuery} {cells : List ℤ} {said : Report} (read
 
     -- what stands beside the rows, where so many were added
     facts-all : (added : ℕ) → added ≡ countOr0 (reportAdded r) → factsIn s (setWords (closedSets (queryIn s))) cells added ≡ factsOf (reportAnswer said)
-    unfolding factsIn factsOf reportAnswer planAnswer
+    unfolding factsIn factsOf reportAnswer planAnswer queryIn
     facts-all added e =
         let same = query-kept ready admitted in
         let t : s .«table_count» ≡ length (map bitsOf (closedSets q)) = k .table-count ∙ tables-all in
@@ -311,7 +311,6 @@ module _ (bs : Bytes) {s : StoredQuery} {cells : List ℤ} {said : Report} (read
         λ i. factsWith (t i) (b i) (u .0 i) (u .1 i) (f i) (e i)
       where
         kept-flag : s .«full_outer» ≡ q .fullOuter
-        unfolding queryIn
         kept-flag = k .full-outer
 
     -- ---- the plan run by the code

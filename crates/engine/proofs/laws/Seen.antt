@@ -98,19 +98,19 @@ module _ {s : StoredQuery} {cells : List ℤ} {r : Report} (k : Stands s cells r
       done-wide L = finished-wide (database r) (tableCount q) L (rowsOf (database r) E) rows-wide
 
       right-shaped : Shaped laws (rightSide E)
+      unfolding rightSide
       right-shaped = go E h
         where
           go : (F : Tree ℕ) → Shaped laws F → Shaped laws (rightSide F)
-          unfolding rightSide
           go (leaf t) x = x
           go (join k C A B) x = x .1
 
       -- and so they are with the rows of the right side that are added
       pub added-seen : (rows : List Row) → Wide (tableCount q) rows → withAdded W E (map (pad spare) rows) ≡ map (pad spare) (withAdded (database r) E rows)
+      unfolding database databaseOf
       added-seen rows w = with-added-pad W (database r) spare (tableCount q) E rows (rows-seen (rightSide E) right-shaped) right-wide w
         where
           right-wide : Wide (tableCount q) (rowsOf (database r) (rightSide E))
-          unfolding database databaseOf
           right-wide row m = rows-valid laws (rightSide E) right-shaped row m .len
 
       pub side-shaped : Shaped laws (rightSide E)
@@ -122,11 +122,10 @@ module _ {s : StoredQuery} {cells : List ℤ} {r : Report} (k : Stands s cells r
 
       -- the rows at the end of a run
       pub ended-seen : (rows : List Row) → Wide (tableCount q) rows → endedRows W (q .fullOuter) (joinTree q) (map (pad spare) rows) ≡ map (pad spare) (ended r rows)
-      unfolding ended
+      unfolding ended endedRows
       ended-seen rows w = go (q .fullOuter)
         where
           go : (b : Bool) → endedRows W b (joinTree q) (map (pad spare) rows) ≡ map (pad spare) (if b then withAdded (database r) (joinTree q) rows else rows)
-          unfolding endedRows
           go true = added-seen (joinTree q) query-tree rows w
           go false = refl
 

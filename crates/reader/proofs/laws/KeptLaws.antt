@@ -1,7 +1,6 @@
 -- What the lines of a report leave in the code's structs is the report: its counts, its joins, conditions and pairs, and its tables'
 -- columns and rows. Assumes nothing.
 use mathlib.Core.Path.{_≡_, sym, refl, _∙_, ap}
-use mathlib.Core.Bool.{Bool, true, false, _||_}
 use mathlib.Core.List.{List, [], _∷_, map}
 use Prim.Native.Nat.{_+_, ℕ, suc, _-_}
 use native.Mathlib.Nat.{add-zero, zero-add}
@@ -16,7 +15,7 @@ use Rattle.vocabulary.specs.inner.Stored.{joinIn, keyKept}
 use Rattle.vocabulary.specs.declared.query.StoredJoin.{StoredJoin}
 use Rattle.vocabulary.specs.declared.query.StoredPair.{StoredPair}
 use Rattle.text.specs.Lines.{OrderLine, orderLine, JoinLine, joinLine, conditionLine, JoinKind, kindOf, sidesRead, isFullOuter, TableLine, tableLine, rowLine}
-use Rattle.text.specs.Reading.{pairsOf, conditionsOf, firstConditions, joinsOf, fullOuterOf, tablesOf, firstRows}
+use Rattle.text.specs.Reading.{pairsOf, conditionsOf, firstConditions, joinsOf, fullOuterFrom, tablesOf, firstRows}
 use Rattle.reader.specs.inner.State.{afterPair, afterJoin, afterCondition, oneMore, afterTable, afterRow, closedRows, openedTable}
 use Rattle.reader.specs.declared.tables.Tables.{Tables}
 use Rattle.reader.specs.declared.join_lines.Joins.{Joins}
@@ -102,20 +101,11 @@ joins-kept j (conditionLine c ∷ ls) =
     let e : j .latest .count + 1 + n ≡ j .latest .count + suc n = omega arith in
     joins-kept (afterCondition j) ls ∙ rw (add-one (j .«condition_count»), e)
 
--- whether there is a full outer join
-or-assoc : (a b c : Bool) → ((a || b) || c) ≡ (a || (b || c))
-or-assoc true b c = refl
-or-assoc false b c = refl
-
-or-false : (a : Bool) → a ≡ (a || false)
-or-false true = refl
-or-false false = refl
-
-pub full-outer-kept : (j : Joins) (ls : List JoinLine) → (joinsAfter j ls) .«full_outer» ≡ (j .«full_outer» || fullOuterOf ls)
-unfolding joinsAfter fullOuterOf afterJoin afterCondition
-full-outer-kept j [] = or-false (j .«full_outer»)
-full-outer-kept j (joinLine k a b ∷ ls) =
-    full-outer-kept (withJoin j k a b) ls ∙ or-assoc (j .«full_outer») (isFullOuter k) (fullOuterOf ls)
+-- whether the last J line is a full outer join
+pub full-outer-kept : (j : Joins) (ls : List JoinLine) → (joinsAfter j ls) .«full_outer» ≡ fullOuterFrom (j .«full_outer») ls
+unfolding joinsAfter fullOuterFrom afterJoin afterCondition
+full-outer-kept j [] = refl
+full-outer-kept j (joinLine k a b ∷ ls) = full-outer-kept (withJoin j k a b) ls
 full-outer-kept j (conditionLine c ∷ ls) = full-outer-kept (afterCondition j) ls
 
 -- ---- tables

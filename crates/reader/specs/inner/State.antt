@@ -1,5 +1,5 @@
 -- What one line more does to the code's structs: tables, joins with their conditions, and pairs. Assumes nothing.
-use mathlib.Core.Bool.{true, false, Bool, _&&_, _||_}
+use mathlib.Core.Bool.{true, false, Bool, _&&_}
 use mathlib.Core.List.{List}
 use Prim.Native.Nat.{ℕ, _-_, _+_}
 use lib.Dec.{leb, eqb}
@@ -103,14 +103,14 @@ nothing = record { table = 0; column = 0; operator = 0; side = Column 0 0 }
 unfoldable pub noConditions : List Condition
 noConditions = replicate mostConditions nothing
 
--- `this` tells whether the J line is a full outer join
+-- `fullOuter` tells whether the J line is a full outer join
 unfoldable pub afterJoin : Joins → Kind → ℕ → ℕ → Bool → Joins
-afterJoin s k a b this = record {
+afterJoin s k a b fullOuter = record {
   count = s .count + 1;
   joins = set (s .joins) (s .count - 1) (s .latest);
   latest = record { kind = k; left = a; right = b; first = s .«condition_count»; count = 0 };
   «condition_count» = s .«condition_count»;
-  «full_outer» = s .«full_outer» || this;
+  «full_outer» = fullOuter;
 }
 
 -- a join with a condition more

@@ -10,7 +10,7 @@ use native.Mathlib.Decide.{ℕ-discrete}
 use Prim.Native.Nat.{ℕ, suc, _+_, _≤_, _<_}
 use lib.IntN.{ℤ}
 use native.Mathlib.Omega.{arith}
-use lib.Dec.{leb, eqb}
+use lib.Dec.{T, leb, eqb}
 use lib.ListN.{length}
 use borrow.Author.Tests.{ne-eqb}
 use Rattle.cells.proofs.laws.BoolLaws.{clash}
@@ -18,13 +18,14 @@ use Rattle.cells.specs.Choice.{if_then_else_}
 use Rattle.cells.specs.Limits.{mostBytes}
 use Rattle.rows.specs.Lists.{_isIn_}
 use Rattle.rows.proofs.laws.ListLaws.{here, there, range-intro, range-elim}
+use Rattle.rows.specs.declared.kind.Kind.the-variants.{Outer}
 use Rattle.rows.proofs.laws.ShapesLaws.{BlanksRight}
 use Rattle.vocabulary.specs.Report.{Join, queryOf, conditionNumbers, Report}
-use Rattle.vocabulary.proofs.laws.WellRead.{WellRead, OfJoins}
+use Rattle.vocabulary.proofs.laws.WellRead.{LastJoinOuter, WellRead, OfJoins}
 use Rattle.text.specs.Lines.{Line, JoinKind, innerJoin, leftOuterJoin, rightOuterJoin, fullOuterJoin, kindOf, isFullOuter, JoinLine, joinLine, conditionLine, linesOf, joinsPart, OrderLine, orderLine, orderPart, tableLine, rowLine, tablesPart}
 use Rattle.text.specs.LineParts.{tableLines, joinLines, also, picked, ofTables, ofJoins}
 use Rattle.text.specs.Bytes.{Bytes}
-use Rattle.text.specs.Reading.{firstRows, joinsOf, conditionsOf, firstConditions, conditionsIn, reportOf, textLines, readReport, beforeAll, placed, ifPlaced, Place, opens, follows, opensJoin, staysInJoin, next}
+use Rattle.text.specs.Reading.{firstRows, joinsOf, conditionsOf, firstConditions, conditionsIn, fullOuterFrom, reportOf, textLines, readReport, beforeAll, placed, ifPlaced, Place, opens, follows, opensJoin, staysInJoin, next}
 
 -- ---- what the lines of a text say
 
@@ -61,12 +62,31 @@ joins-counted i (joinLine k a b ∷ ls) j (here e) c m = first-counted i ls c (r
 joins-counted i (joinLine k a b ∷ ls) j (there n) c m = joins-counted i ls j n c m
 joins-counted i (conditionLine d ∷ ls) j n c m = let r = joins-counted (suc i) ls j n c m in omega arith
 
+-- where the last of J lines is a full outer join, the last of their joins is an outer one
+kind-outer : (k : JoinKind) → T (isFullOuter k) → kindOf k ≡ Outer
+unfolding isFullOuter kindOf
+kind-outer innerJoin h = absurd h
+kind-outer leftOuterJoin h = refl
+kind-outer rightOuterJoin h = refl
+kind-outer fullOuterJoin h = refl
+
+last-joins : (f : Bool) (i : ℕ) (ls : List JoinLine) → T (fullOuterFrom f ls) → ((joinsOf i ls ≡ []) × T f) ⊎ LastJoinOuter (joinsOf i ls)
+unfolding fullOuterFrom joinsOf
+last-joins f i [] h = inl (refl, h)
+last-joins f i (joinLine k a b ∷ ls) h = ⊎-elim
+    (λ (e, y). inr (0, ap (λ (js : List Join). suc (length js)) (sym e), λ d. kind-outer k y))
+    (λ (n, c, o). inr (suc n, ap suc c, λ d. o d)) (last-joins (isFullOuter k) i ls h)
+last-joins f i (conditionLine c ∷ ls) h = last-joins f (suc i) ls h
+
 pub report-well-read : (ls : List Line) → WellRead (queryOf (reportOf ls))
 unfolding queryOf reportOf conditionNumbers
-report-well-read ls j m = (
-  (λ c n. let r = joins-counted 0 (joinLines ls) j m c n in range-intro 0 (length (conditionsIn ls)) c (r .0) (r .1)),
-  joins-plain 0 (joinLines ls) j m,
-)
+report-well-read ls = record {
+  each = λ j m. (
+    (λ c n. let r = joins-counted 0 (joinLines ls) j m c n in range-intro 0 (length (conditionsIn ls)) c (r .0) (r .1)),
+    joins-plain 0 (joinLines ls) j m,
+  );
+  last = λ h. ⊎-elim (λ (e, y). absurd y) (λ z. z) (last-joins false 0 (joinLines ls) h);
+}
 
 -- each condition is one of the first ones, which come before any J line, or one of a join
 joins-every : (i : ℕ) (ls : List JoinLine) (c : ℕ) → Counted i ls c
