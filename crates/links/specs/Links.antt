@@ -106,6 +106,7 @@ withDerived q S = record {
   joins = q .joins;
   conditions = q .conditions ++ map equalOf (derivedLinks q S);
   pairs = q .pairs;
+  fullOuter = q .fullOuter;
 }
 
 -- ---- sets with what follows from them

@@ -196,4 +196,5 @@ withNumbered q s = record {
   conditions = s .conditions;
   «pair_count» = q .«pair_count»;
   pairs = q .pairs;
+  «full_outer» = q .«full_outer»;
 }

@@ -2,7 +2,7 @@
 -- link columns that there are. Assumes nothing.
 use mathlib.Core.Path.{_≡_, refl, sym, ap, ap₂, _∙_, subst}
 use mathlib.Core.Logic.{_⊎_, inl, inr, by-cases}
-use mathlib.Core.Bool.{_&&_, not}
+use mathlib.Core.Bool.{Bool, _&&_, not}
 use mathlib.Core.List.{List, [], _∷_, _++_, map}
 use Prim.Native.Nat.{ℕ, _<_, _≤_, _+_}
 use native.Mathlib.Decide.{decLt}
@@ -184,14 +184,14 @@ full-exist q exist k l m = part (append-elim (q .conditions) at)
         let s : l ≡ d = single d (subst (λ (c : Condition). l isIn linkOf c) (sym e) m) in
         subst (λ (z : Link). Exists q (z .0) × Exists q (z .1)) (sym s) (derived-exist q (blankingSets q) d i)
 
--- ---- the derived conditions do not depend on the order
+-- ---- the derived conditions do not depend on the order, nor on whether the last join is a full outer one
 
-module _ (columns : List ℕ) (joins : List Join) (conditions : List Condition) (a b : List Pair) where
+module _ (columns : List ℕ) (joins : List Join) (conditions : List Condition) (a b : List Pair) (x y : Bool) where
   abbrev first : Query
-  first = record { columns = columns; joins = joins; conditions = conditions; pairs = a }
+  first = record { columns = columns; joins = joins; conditions = conditions; pairs = a; fullOuter = x }
 
   abbrev second : Query
-  second = record { columns = columns; joins = joins; conditions = conditions; pairs = b }
+  second = record { columns = columns; joins = joins; conditions = conditions; pairs = b; fullOuter = y }
 
   sets-order : (nodes : List (List ℕ)) (js : List Join) (S : Sets) → setsBy first nodes js S ≡ setsBy second nodes js S
   unfolding setsBy setsAfter setAfter taken conditionNumbers namedBy conditionAt tableNumbers tableCount
@@ -202,11 +202,11 @@ module _ (columns : List ℕ) (joins : List Join) (conditions : List Condition) 
   unfolding fullQuery withDerived derivedLinks chained linksOf statedBefore conditionAt columnPairs allColumns tableNumbers tableCount blankingSets joinNodes nodesOf joinPairs emptySets
   full-order = ap (λ (S : Sets). conditions ++ map equalOf (derivedLinks first S)) (sets-order (joinNodes first) joins (emptySets first))
 
--- queries that differ in their order alone have the same conditions in all
+-- queries with the same columns, joins and written conditions have the same conditions in all
 pub full-same : (q r : Query) → q .columns ≡ r .columns → q .joins ≡ r .joins → q .conditions ≡ r .conditions
     → fullQuery q .conditions ≡ fullQuery r .conditions
 full-same q r c j d =
     ap (λ (z : Query). fullQuery z .conditions)
-    (let x : record { columns = q .columns; joins = q .joins; conditions = q .conditions; pairs = q .pairs }
-    ≡ record { columns = r .columns; joins = r .joins; conditions = r .conditions; pairs = q .pairs } = rw (c, j, d) in x)
-    ∙ full-order (r .columns) (r .joins) (r .conditions) (q .pairs) (r .pairs)
+    (let x : record { columns = q .columns; joins = q .joins; conditions = q .conditions; pairs = q .pairs; fullOuter = q .fullOuter }
+    ≡ record { columns = r .columns; joins = r .joins; conditions = r .conditions; pairs = q .pairs; fullOuter = q .fullOuter } = rw (c, j, d) in x)
+    ∙ full-order (r .columns) (r .joins) (r .conditions) (q .pairs) (r .pairs) (q .fullOuter) (r .fullOuter)
