@@ -142,7 +142,7 @@ module _ (bs : Bytes) {s : StoredQuery} {cells : List ℤ} {r : Report} (read : 
       pub full-stands : Stands f cells (fullReport r)
       unfolding queryIn queryOf fullReport tableCount rowCountIn tableAt cellsOf
       full-stands =
-          let (t, l, n, j, m, p) = full-others s exist few room counted f same in
+          let (t, l, n, j, m, p, o) = full-others s exist few room counted f same in
           record {
             some = rw t (k .some);
             few = rw t (k .few);
@@ -155,6 +155,7 @@ module _ (bs : Bytes) {s : StoredQuery} {cells : List ℤ} {r : Report} (read : 
             conditions = conditions-are ∙ sym (take-all mostConditions (fullQuery (queryOf r) .conditions) (omega (arith, ap length all-same, fits)));
             pair-count = m ∙ k .pair-count;
             pairs = rw (m, p) (k .pairs);
+            full-outer = rw o (k .full-outer);
             ranges = λ a i h d.
                 let z = k .ranges joins i (subst (λ (x : ℕ). i < x) n h) d in
                 let w : s .«condition_count» ≤ f .«condition_count» = omega (arith, k .condition-count, count, ap length all-same, more) in

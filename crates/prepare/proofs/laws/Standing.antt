@@ -82,6 +82,7 @@ module _ (bs : Bytes) (ls : List Line) (read : textLines bs ≡ some ls) (yes : 
     conditions = W.conditions-whole ls;
     pair-count = W.pair-count ls;
     pairs = W.pairs-whole ls;
+    full-outer = W.full-outer-whole ls;
     ranges = λ few i h d. join-range ls few i h d;
     truths = λ few f c row. condition-seen ls (subst (λ (n : ℕ). n ≤ mostConditions) (stored-numbered ls) few) f c row;
     rows = rows-whole ls early (within .1) (within .2) even (within .0);

@@ -84,9 +84,11 @@ module _ (q r : Query) (c : q .columns ≡ r .columns) (j : q .joins ≡ r .join
     unfolding question7
     seven-same = all-same (seven q) (seven r) (q .joins) (λ x. any-same _ _ (x .conditions) (λ i. rw (number-same i, nodes-same))) ∙ ap (all (seven r)) j
 
-    -- queries that have the same P lines too are the same
-    query-same : q .pairs ≡ r .pairs → q ≡ r
-    query-same e = let x : record { columns = q .columns; joins = q .joins; conditions = q .conditions; pairs = q .pairs } ≡ r = rw (c, j, d, e) in x
+    -- queries that have the same P lines too, and the same flag of a full outer join, are the same
+    query-same : q .pairs ≡ r .pairs → q .fullOuter ≡ r .fullOuter → q ≡ r
+    query-same e f =
+        let x : record { columns = q .columns; joins = q .joins; conditions = q .conditions; pairs = q .pairs; fullOuter = q .fullOuter } ≡ r = rw (c, j, d, e, f) in
+        x
 
 module _ {s : StoredQuery} {cells : List ℤ} {r : Report} (k : Stands s cells r) where
   abbrev q : Query
@@ -147,4 +149,4 @@ module _ {s : StoredQuery} {cells : List ℤ} {r : Report} (k : Stands s cells r
 
       -- once question 9 was answered yes
       pub whole-query : s .«pair_count» ≤ mostPairs → queryIn s ≡ q
-      whole-query h = query-same (queryIn s) q (k .columns) (same-joins n) (same-conditions m) (same-pairs h)
+      whole-query h = query-same (queryIn s) q (k .columns) (same-joins n) (same-conditions m) (same-pairs h) (k .full-outer)
