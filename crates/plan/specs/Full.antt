@@ -10,4 +10,10 @@ fullQuery q = withDerived q (blankingSets q)
 
 -- the report with its derived conditions: "they have U lines". Specification 6.9
 unfoldable pub fullReport : Report → Report
-fullReport r = record { tables = r .tables; joins = r .joins; conditions = fullQuery (queryOf r) .conditions; pairs = r .pairs; fullOuter = r .fullOuter }
+fullReport r = record {
+  tables = r .tables;
+  joins = r .joins;
+  conditions = fullQuery (queryOf r) .conditions;
+  pairs = r .pairs;
+  fullOuter = r .fullOuter;
+}

@@ -95,5 +95,6 @@ module _ (s : StoredQuery) (exist : LinksExist (queryIn s)) (few : ColumnsFew (q
   -- the other parts stay
   pub full-others : (z : StoredQuery) → z ≡ fullStored s → (z .«table_count» ≡ s .«table_count») × (z .layout ≡ s .layout) × (z .«join_count» ≡ s .«join_count»)
       × (z .joins ≡ s .joins) × (z .«pair_count» ≡ s .«pair_count») × (z .pairs ≡ s .pairs)
+      × (z .«full_outer» ≡ s .«full_outer»)
   unfolding fullStored withNumbered
-  full-others z e = rw e (refl, refl, refl, refl, refl, refl)
+  full-others z e = rw e (refl, refl, refl, refl, refl, refl, refl)
