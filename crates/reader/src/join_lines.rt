@@ -8,17 +8,20 @@ use rows::kind::Kind;
 use text::line::LineRead;
 use vocabulary::query::StoredJoin;
 ghost use mathlib.Core.Path.{_≡_};
+ghost use mathlib.Core.Bool.{_||_};
 ghost use Prim.Native.Nat.{_+_, _-_, _<_};
 ghost use lib.ListN.{set};
 ghost use Rattle.reader.specs.inner.State.{noJoins, nothing, noConditions, afterJoin, afterCondition};
 ghost use Rattle.reader.specs.inner.Survey.{conditionPlace, conditionIn};
 
-// The joins before the latest, the latest, and how many conditions there are; these stand in an array of their own.
+// The joins before the latest, the latest, how many conditions there are, which stand in an array of their own, and whether there is a
+// full outer join.
 pub struct Joins {
     pub count: u16,
     pub joins: [StoredJoin; JOINS],
     pub latest: StoredJoin,
     pub condition_count: u16,
+    pub full_outer: bool,
 }
 
 // No line yet.
@@ -37,6 +40,7 @@ pub fn no_joins() -> Joins
         joins: [none; JOINS],
         latest: none,
         condition_count: 0,
+        full_outer: false,
     }
 }
 
@@ -84,7 +88,7 @@ pub(crate) fn slot(count: u16, x: LineRead) -> usize
     match x {
         LineRead::Table(n, k) => CONDITIONS,
         LineRead::Row(n) => CONDITIONS,
-        LineRead::Join(k, l, r) => CONDITIONS,
+        LineRead::Join(k, l, r, f) => CONDITIONS,
         LineRead::Condition(c) => count as usize,
         LineRead::Order(l, r) => CONDITIONS,
         LineRead::NoForm => CONDITIONS,
@@ -98,18 +102,29 @@ pub(crate) fn condition_in(x: LineRead) -> Condition
     match x {
         LineRead::Table(n, k) => nothing(),
         LineRead::Row(n) => nothing(),
-        LineRead::Join(k, l, r) => nothing(),
+        LineRead::Join(k, l, r, f) => nothing(),
         LineRead::Condition(c) => c,
         LineRead::Order(l, r) => nothing(),
         LineRead::NoForm => nothing(),
     }
 }
 
-// A J line more.
-pub(crate) fn after_join(s: Joins, kind: Kind, left: u16, right: u16) -> Joins
-    requires { ⌜ s .count < 65535 ⌝ }
-    ensures { λ r. ⌜ r ≡ afterJoin s kind left right ⌝ }
+// Whether there is a full outer join: before a J line, or that line.
+fn either(before: bool, this: bool) -> bool
+    ensures { λ r. ⌜ r ≡ (before || this) ⌝ }
 {
+    if before {
+        return true;
+    }
+    this
+}
+
+// A J line more.
+pub(crate) fn after_join(s: Joins, kind: Kind, left: u16, right: u16, this: bool) -> Joins
+    requires { ⌜ s .count < 65535 ⌝ }
+    ensures { λ r. ⌜ r ≡ afterJoin s kind left right this ⌝ }
+{
+    let full_outer = either(s.full_outer, this);
     let count = s.count;
     let latest = s.latest;
     let before = s.joins;
@@ -125,6 +140,7 @@ pub(crate) fn after_join(s: Joins, kind: Kind, left: u16, right: u16) -> Joins
             count: 0,
         },
         condition_count: s.condition_count,
+        full_outer: full_outer,
     }
 }
 
@@ -148,5 +164,6 @@ pub(crate) fn after_condition(s: Joins) -> Joins
             count: latest.count + 1,
         },
         condition_count: k + 1,
+        full_outer: s.full_outer,
     }
 }

@@ -33,6 +33,7 @@ pub fn stored(s: Reading) -> StoredQuery
         conditions: conditions,
         pair_count: p.count,
         pairs: pairs,
+        full_outer: j.full_outer,
     }
 }
 

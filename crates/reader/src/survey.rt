@@ -93,7 +93,7 @@ fn with_table(t: Tables, x: LineRead) -> Tables
     match x {
         LineRead::Table(n, k) => tables::after_table(t, n, k),
         LineRead::Row(n) => tables::after_row(t, n),
-        LineRead::Join(k, l, r) => t,
+        LineRead::Join(k, l, r, f) => t,
         LineRead::Condition(c) => t,
         LineRead::Order(l, r) => t,
         LineRead::NoForm => t,
@@ -108,7 +108,7 @@ fn with_join(j: Joins, x: LineRead) -> Joins
     match x {
         LineRead::Table(n, k) => j,
         LineRead::Row(n) => j,
-        LineRead::Join(k, l, r) => join_lines::after_join(j, k, l, r),
+        LineRead::Join(k, l, r, f) => join_lines::after_join(j, k, l, r, f),
         LineRead::Condition(c) => join_lines::after_condition(j),
         LineRead::Order(l, r) => j,
         LineRead::NoForm => j,
@@ -123,7 +123,7 @@ fn with_pair(q: Pairs, x: LineRead) -> Pairs
     match x {
         LineRead::Table(n, k) => q,
         LineRead::Row(n) => q,
-        LineRead::Join(k, l, r) => q,
+        LineRead::Join(k, l, r, f) => q,
         LineRead::Condition(c) => q,
         LineRead::Order(l, r) => pairs::after_pair(q, l, r),
         LineRead::NoForm => q,

@@ -1,6 +1,7 @@
--- The form of each kind of line: document 01, "Report text", and document 02, item 4. A form reads the fields of a line from the left,
--- each once. Specification 2.7, 2.15.
+-- The form of each kind of line: document 01, "Report text", and document 02, items 4 and 7. A form reads the fields of a line from the
+-- left, each once. Specification 2.7, 2.15, 2.16, 2.17.
 -- Assumes nothing.
+use mathlib.Core.Bool.{Bool, true, false}
 use mathlib.Core.List.{List, [], _∷_}
 use mathlib.Core.Option.{Option, none, some}
 use Prim.Native.Nat.{ℕ}
@@ -11,17 +12,35 @@ use Rattle.cells.specs.declared.condition.Condition.{Condition}
 use Rattle.cells.specs.declared.condition.Side.the-variants.{Column, Constant}
 use Rattle.rows.specs.declared.kind.Kind.{Kind}
 use Rattle.rows.specs.declared.kind.Kind.the-variants.{Inner, Outer}
+use Rattle.vocabulary.specs.Report.{Pair}
 use Rattle.text.specs.Bytes.{Bytes, bytes, sameBytes, tab, split, lineFeed, closed}
 use Rattle.text.specs.Numbers.{small, cell, constant}
 
--- the kinds of a J line: "`I` (inner) or `L` (left outer, left side preserved)". Specification 2.7
+-- the kinds of a J line: "`I` (inner) or `L` (left outer, left side preserved)"; `R` is the right outer join, `F` the full outer join:
+-- "The last J may be kind `F`", "Any J may be `R`". Specification 2.7, 2.16, 2.17
 pub data JoinKind : Type 0 where
-  innerJoin leftOuterJoin : JoinKind
+  innerJoin leftOuterJoin rightOuterJoin fullOuterJoin : JoinKind
 
--- Specification 2.7
+-- the kind of the join that a J line is: sets, plan and joins take a right and a full outer join as outer joins. Specification 2.7, 2.16, 2.17
 unfoldable pub kindOf : JoinKind → Kind
 kindOf innerJoin = Inner
 kindOf leftOuterJoin = Outer
+kindOf rightOuterJoin = Outer
+kindOf fullOuterJoin = Outer
+
+-- the left and the right side of the join that a J line is: `R` is "read as `L` with sides exchanged". Specification 2.16
+unfoldable pub sidesRead : JoinKind → ℕ → ℕ → Pair
+sidesRead innerJoin a b = (a, b)
+sidesRead leftOuterJoin a b = (a, b)
+sidesRead rightOuterJoin a b = (b, a)
+sidesRead fullOuterJoin a b = (a, b)
+
+-- whether a J line is a full outer join. Specification 2.17
+unfoldable pub isFullOuter : JoinKind → Bool
+isFullOuter innerJoin = false
+isFullOuter leftOuterJoin = false
+isFullOuter rightOuterJoin = false
+isFullOuter fullOuterJoin = true
 
 -- a line and what it says, by the part of the text that it belongs to: "All T and D lines come first, then each J with its C and K
 -- lines, then P lines". T has its count of columns and its key column, if it names one; D has its cells. Specification 2.7, 2.8, 2.15
@@ -98,9 +117,9 @@ word w = field (oneOf ((w, tt) ∷ []))
 unfoldable pub numberField : Form ℕ
 numberField = field small
 
--- the kind of a J line. Specification 2.7
+-- the kind of a J line. Specification 2.7, 2.16, 2.17
 unfoldable pub kindField : Form JoinKind
-kindField = field (oneOf (("I", innerJoin) ∷ ("L", leftOuterJoin) ∷ []))
+kindField = field (oneOf (("I", innerJoin) ∷ ("L", leftOuterJoin) ∷ ("R", rightOuterJoin) ∷ ("F", fullOuterJoin) ∷ []))
 
 -- "codes `<` 1, `=` 2, `<=` 3, `>` 4, `<>` 5, `>=` 6". Specification 2.6, 4.2
 unfoldable pub operatorField : Form ℕ

@@ -19,10 +19,14 @@ const EQUAL: u8 = 61;
 
 const GREATER: u8 = 62;
 
-// The kinds of a J line, I and L.
+// The kinds of a J line: I, L, R and F.
 const INNER: u8 = 73;
 
-const LEFT: u8 = 76;
+const LEFT_OUTER: u8 = 76;
+
+const RIGHT_OUTER: u8 = 82;
+
+const FULL_OUTER: u8 = 70;
 
 // A table, column or node field, or T's count.
 pub enum NumberAt {
@@ -47,9 +51,9 @@ pub enum OperatorAt {
     Bad,
 }
 
-// The kind of a J line.
+// The kind of a J line: the join's kind, whether the line's sides are exchanged, and whether it is a full outer join.
 pub enum KindAt {
-    Value(Kind, usize),
+    Value(Kind, bool, bool, usize),
     Bad,
 }
 
@@ -197,10 +201,16 @@ pub fn kind_at(l: &[u8], at: usize) -> KindAt
     }
     let b = l[at];
     if b == INNER {
-        return KindAt::Value(Kind::Inner, to + 1);
+        return KindAt::Value(Kind::Inner, false, false, to + 1);
     }
-    if b == LEFT {
-        return KindAt::Value(Kind::Outer, to + 1);
+    if b == LEFT_OUTER {
+        return KindAt::Value(Kind::Outer, false, false, to + 1);
+    }
+    if b == RIGHT_OUTER {
+        return KindAt::Value(Kind::Outer, true, false, to + 1);
+    }
+    if b == FULL_OUTER {
+        return KindAt::Value(Kind::Outer, false, true, to + 1);
     }
     KindAt::Bad
 }

@@ -17,11 +17,12 @@ ghost use Rattle.text.specs.inner.Parts.{fieldsFrom};
 ghost use Rattle.text.specs.Lines.{tablesPart, joinsPart, orderPart, lineOf};
 ghost use Rattle.text.specs.inner.Forms.{lineRead, formRead, tableForm, rowForm, joinForm, columnForm, constantForm, orderForm};
 
-// What a line says: of a T line its key column as a number and 1, or 0; of a D line, how many cells it has.
+// What a line says: of a T line its key column as a number and 1, or 0; of a D line, how many cells it has; of a J line its kind, its
+// sides as they are read, those of a right outer join exchanged, and whether it is a full outer join.
 pub enum LineRead {
     Table(u16, u32),
     Row(usize),
-    Join(Kind, u16, u16),
+    Join(Kind, u16, u16, bool),
     Condition(Condition),
     Order(u16, u16),
     NoForm,
@@ -79,12 +80,12 @@ pub fn row_line(l: &[u8], at: usize) -> LineRead
     LineRead::Row(n)
 }
 
-// J: kind, left, right.
+// J: kind, left, right. A right outer join is a left outer join with its sides exchanged.
 pub fn join_line(l: &[u8], at: usize) -> LineRead
     ensures { λ r. ⌜ r ≡ formRead joinsPart (joinForm (fieldsFrom (now (l .entry)) at)) ⌝ }
 {
     let k = field::kind_at(l, at);
-    let KindAt::Value(kind, sides) = k else {
+    let KindAt::Value(kind, exchanged, full_outer, sides) = k else {
         return LineRead::NoForm;
     };
     let p = field::pair_at(l, sides);
@@ -94,7 +95,10 @@ pub fn join_line(l: &[u8], at: usize) -> LineRead
     if next <= l.len() {
         return LineRead::NoForm;
     }
-    LineRead::Join(kind, left, right)
+    if exchanged {
+        return LineRead::Join(kind, right, left, full_outer);
+    }
+    LineRead::Join(kind, left, right, full_outer)
 }
 
 // C: table, column, operator, table, column.

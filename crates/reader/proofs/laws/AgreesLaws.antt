@@ -9,12 +9,12 @@ use lib.ListN.{length}
 use Rattle.cells.specs.Choice.{if_then_else_}
 use Rattle.cells.specs.Limits.{mostBytes}
 use Rattle.text.specs.Bytes.{Bytes, lineFeed, split, closed}
-use Rattle.text.specs.Lines.{tableLine, rowLine, joinLine, conditionLine, orderLine, Line, tablesPart, joinsPart, orderPart, lineOf, both, readAll, linesOf}
+use Rattle.text.specs.Lines.{tableLine, rowLine, joinLine, conditionLine, isFullOuter, orderLine, Line, tablesPart, joinsPart, orderPart, lineOf, both, readAll, linesOf}
 use Rattle.text.specs.LineParts.{also, picked, ofTables, ofJoins, ofOrder}
-use Rattle.text.specs.Reading.{Place, opens, follows, next, placed, beforeAll, ifPlaced, textLines}
+use Rattle.text.specs.Reading.{Place, opens, follows, opensJoin, staysInJoin, next, placed, beforeAll, ifPlaced, textLines}
 use Rattle.text.specs.inner.Parts.{linesFrom}
 use Rattle.text.specs.inner.Forms.{lineRead}
-use Rattle.reader.specs.inner.Survey.{opensAt, followsAt, nextRead, atPlace, told, start, readAt, onward, afterRead, readLines, readFrom, surveyOf}
+use Rattle.reader.specs.inner.Survey.{opensAt, followsAt, opensJoinAt, staysInJoinAt, nextRead, atPlace, told, start, readAt, onward, afterRead, readLines, readFrom, surveyOf}
 use Rattle.reader.specs.inner.State.{afterJoin, afterCondition}
 use Rattle.reader.specs.inner.Kept.{tablesAfter, joinsAfter, conditionsAfter, pairsAfter}
 use Rattle.reader.specs.declared.place.Place.{Place as PlaceRead}
@@ -36,13 +36,25 @@ unfolding placesOf
 if-same true n = refl
 if-same false n = refl
 
+join-same : (p : PlaceRead) (f : Bool) → opensJoin (placeOf p) f ≡ placesOf (opensJoinAt p f)
+unfolding opensJoin opensJoinAt
+join-same p f = if-same (leb (p .part) 2) (if f then 3 else 2)
+
+stays-same : (p : PlaceRead) → staysInJoin (placeOf p) ≡ placesOf (staysInJoinAt p)
+unfolding staysInJoin staysInJoinAt follows followsAt
+stays-same p = go (eqb (p .part) 3)
+  where
+    go : (t : Bool) → (if t then follows (placeOf p) 3 else follows (placeOf p) 2) ≡ placesOf (if t then followsAt p 3 else followsAt p 2)
+    go true = if-same (eqb (p .part) 3) 3
+    go false = if-same (eqb (p .part) 2) 2
+
 next-same : (p : PlaceRead) (x : Line) → next (placeOf p) x ≡ placesOf (nextRead p (lineRead (some x)))
-unfolding next opens follows opensAt followsAt placesOf
+unfolding next opens follows opensAt followsAt
 next-same p (tablesPart (tableLine n k)) = if-same (leb (p .part) 1) 1
 next-same p (tablesPart (rowLine zs)) = if-same (eqb (p .part) 1) 1
-next-same p (joinsPart (joinLine k a b)) = if-same (leb (p .part) 2) 2
-next-same p (joinsPart (conditionLine c)) = if-same (eqb (p .part) 2) 2
-next-same p (orderPart (orderLine a b)) = if-same (leb (p .part) 3) 3
+next-same p (joinsPart (joinLine k a b)) = join-same p (isFullOuter k)
+next-same p (joinsPart (conditionLine c)) = stays-same p
+next-same p (orderPart (orderLine a b)) = if-same (leb (p .part) 4) 4
 
 -- ---- the reading after lines
 

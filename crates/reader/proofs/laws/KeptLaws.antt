@@ -1,6 +1,7 @@
 -- What the lines of a report leave in the code's structs is the report: its counts, its joins, conditions and pairs, and its tables'
 -- columns and rows. Assumes nothing.
 use mathlib.Core.Path.{_≡_, sym, refl, _∙_, ap}
+use mathlib.Core.Bool.{Bool, true, false, _||_}
 use mathlib.Core.List.{List, [], _∷_, map}
 use Prim.Native.Nat.{_+_, ℕ, suc, _-_}
 use native.Mathlib.Nat.{add-zero, zero-add}
@@ -14,8 +15,8 @@ use Rattle.vocabulary.specs.Report.{Pair, Table}
 use Rattle.vocabulary.specs.inner.Stored.{joinIn, keyKept}
 use Rattle.vocabulary.specs.declared.query.StoredJoin.{StoredJoin}
 use Rattle.vocabulary.specs.declared.query.StoredPair.{StoredPair}
-use Rattle.text.specs.Lines.{OrderLine, orderLine, JoinLine, joinLine, conditionLine, kindOf, TableLine, tableLine, rowLine}
-use Rattle.text.specs.Reading.{pairsOf, conditionsOf, firstConditions, joinsOf, tablesOf, firstRows}
+use Rattle.text.specs.Lines.{OrderLine, orderLine, JoinLine, joinLine, conditionLine, JoinKind, kindOf, sidesRead, isFullOuter, TableLine, tableLine, rowLine}
+use Rattle.text.specs.Reading.{pairsOf, conditionsOf, firstConditions, joinsOf, fullOuterOf, tablesOf, firstRows}
 use Rattle.reader.specs.inner.State.{afterPair, afterJoin, afterCondition, oneMore, afterTable, afterRow, closedRows, openedTable}
 use Rattle.reader.specs.declared.tables.Tables.{Tables}
 use Rattle.reader.specs.declared.join_lines.Joins.{Joins}
@@ -39,11 +40,15 @@ pairs-kept p (orderLine a b ∷ ls) = pairs-kept (afterPair p a b) ls ∙ rw (ad
 
 -- ---- conditions
 
+-- a J line more
+abbrev withJoin : Joins → JoinKind → ℕ → ℕ → Joins
+withJoin j k a b = afterJoin j (kindOf k) (sidesRead k a b .0) (sidesRead k a b .1) (isFullOuter k)
+
 pub conditions-count : (j : Joins) (ls : List JoinLine) → (joinsAfter j ls) .«condition_count» ≡ j .«condition_count» + length (conditionsOf ls)
 unfolding joinsAfter conditionsOf afterJoin afterCondition
 conditions-count j [] = sym (add-zero (j .«condition_count»))
 conditions-count j (conditionLine c ∷ ls) = let h = conditions-count (afterCondition j) ls in omega arith
-conditions-count j (joinLine k a b ∷ ls) = conditions-count (afterJoin j (kindOf k) a b) ls
+conditions-count j (joinLine k a b ∷ ls) = conditions-count (withJoin j k a b) ls
 
 pub conditions-kept : (n : ℕ) (cs : List Condition) (ls : List JoinLine) → conditionsAfter n cs ls ≡ sets cs n (conditionsOf ls)
 unfolding conditionsAfter conditionsOf
@@ -57,7 +62,7 @@ conditions-kept n cs (joinLine k a b ∷ ls) = conditions-kept n cs ls
 unfoldable pub storedJoins : ℕ → List JoinLine → List StoredJoin
 storedJoins i [] = []
 storedJoins i (joinLine k a b ∷ ls) =
-    record { kind = kindOf k; left = a; right = b; first = i; count = length (firstConditions i ls) } ∷ storedJoins i ls
+    record { kind = kindOf k; left = sidesRead k a b .0; right = sidesRead k a b .1; first = i; count = length (firstConditions i ls) } ∷ storedJoins i ls
 storedJoins i (conditionLine c ∷ ls) = storedJoins (suc i) ls
 
 -- they are the joins that the lines say
@@ -80,7 +85,7 @@ more n j = record { kind = j .kind; left = j .left; right = j .right; first = j 
 pub joins-count : (j : Joins) (ls : List JoinLine) → (joinsAfter j ls) .count ≡ j .count + length (storedJoins (j .«condition_count») ls)
 unfolding joinsAfter storedJoins afterJoin afterCondition
 joins-count j [] = sym (add-zero (j .count))
-joins-count j (joinLine k a b ∷ ls) = let h = joins-count (afterJoin j (kindOf k) a b) ls in omega arith
+joins-count j (joinLine k a b ∷ ls) = let h = joins-count (withJoin j k a b) ls in omega arith
 joins-count j (conditionLine c ∷ ls) = joins-count (afterCondition j) ls ∙ rw (add-one (j .«condition_count»))
 
 pub joins-kept : (j : Joins) (ls : List JoinLine)
@@ -90,12 +95,28 @@ unfolding joinsAfter storedJoins firstConditions afterJoin afterCondition oneMor
 joins-kept j [] = rw (add-zero (j .latest .count))
 joins-kept j (joinLine k a b ∷ ls) =
     let e : j .count + 1 - 1 ≡ j .count = omega arith in
-    joins-kept (afterJoin j (kindOf k) a b) ls
+    joins-kept (withJoin j k a b) ls
     ∙ rw (e, add-one (j .count), zero-add (length (firstConditions (j .«condition_count») ls)), add-zero (j .latest .count))
 joins-kept j (conditionLine c ∷ ls) =
     let n = length (firstConditions (suc (j .«condition_count»)) ls) in
     let e : j .latest .count + 1 + n ≡ j .latest .count + suc n = omega arith in
     joins-kept (afterCondition j) ls ∙ rw (add-one (j .«condition_count»), e)
+
+-- whether there is a full outer join
+or-assoc : (a b c : Bool) → ((a || b) || c) ≡ (a || (b || c))
+or-assoc true b c = refl
+or-assoc false b c = refl
+
+or-false : (a : Bool) → a ≡ (a || false)
+or-false true = refl
+or-false false = refl
+
+pub full-outer-kept : (j : Joins) (ls : List JoinLine) → (joinsAfter j ls) .«full_outer» ≡ (j .«full_outer» || fullOuterOf ls)
+unfolding joinsAfter fullOuterOf afterJoin afterCondition
+full-outer-kept j [] = or-false (j .«full_outer»)
+full-outer-kept j (joinLine k a b ∷ ls) =
+    full-outer-kept (withJoin j k a b) ls ∙ or-assoc (j .«full_outer») (isFullOuter k) (fullOuterOf ls)
+full-outer-kept j (conditionLine c ∷ ls) = full-outer-kept (afterCondition j) ls
 
 -- ---- tables
 

@@ -15,13 +15,13 @@ use Rattle.vocabulary.specs.Report.{Table, Pair}
 use Rattle.vocabulary.specs.inner.Stored.{joinIn, pairIn}
 use Rattle.text.specs.Lines.{Line}
 use Rattle.text.specs.LineParts.{tableLines, joinLines, orderLines}
-use Rattle.text.specs.Reading.{tablesIn, joinsIn, conditionsIn, pairsIn, firstConditions, reportOf}
+use Rattle.text.specs.Reading.{tablesIn, joinsIn, conditionsIn, pairsIn, fullOuterIn, firstConditions, reportOf}
 use Rattle.text.proofs.laws.ReadingLaws.{earlyRows}
 use Rattle.text.specs.TableQuestions.{cellsInRows, cellsInTables, tableFits, question3, question4}
 use Rattle.reader.specs.inner.State.{noTables, noJoins, noPairs, closedRows, noConditions}
 use Rattle.reader.specs.inner.Survey.{start}
 use Rattle.reader.specs.inner.Agrees.{linesAfter}
-use Rattle.reader.proofs.laws.KeptLaws.{tables-count, storedJoins, stored-joins, joins-count, conditions-count, pairs-count, columns-kept, more, joins-kept, conditions-kept, storePair, pairs-kept}
+use Rattle.reader.proofs.laws.KeptLaws.{tables-count, storedJoins, stored-joins, joins-count, conditions-count, full-outer-kept, pairs-count, columns-kept, more, joins-kept, conditions-kept, storePair, pairs-kept}
 use Rattle.reader.proofs.laws.Counts.{even-kept, fits-kept, cells-kept}
 use Rattle.reader.specs.declared.tables.Tables.{Tables}
 use Rattle.reader.specs.declared.survey.Reading.{Reading}
@@ -132,6 +132,10 @@ pub stored-paired : (ls : List Line) → (storedOf (done ls)) .«pair_count» �
 unfolding storedOf linesAfter start noPairs
 stored-paired ls =
     pairs-count noPairs (orderLines ls) ∙ zero-add (length (pairsIn ls))
+
+pub stored-full-outer : (ls : List Line) → (storedOf (done ls)) .«full_outer» ≡ fullOuterIn ls
+unfolding storedOf linesAfter start noJoins
+stored-full-outer ls = full-outer-kept noJoins (joinLines ls)
 
 pub kept-columns : (ls : List Line) → length (tablesIn ls) ≤ mostTables
     → take (length (tablesIn ls)) ((storedOf (done ls)) .layout .columns) ≡ map (λ (x : Table). x .columns) (tablesIn ls)

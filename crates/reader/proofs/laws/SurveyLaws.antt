@@ -1,7 +1,7 @@
 -- Laws of the pass over the lines: the place of a line, one line more, the lines that are left, and that no count passes the lines that
 -- were read. Assumes nothing.
 use mathlib.Core.Path.{_≡_, ap, _∙_, sym, refl, subst}
-use mathlib.Core.Bool.{false}
+use mathlib.Core.Bool.{Bool, true, false}
 use Prim.Native.Nat.{ℕ, _≤_, _<_, _+_, _-_}
 use mathlib.Core.Logic.{_⊎_, inl, inr}
 use mathlib.Core.List.{List}
@@ -22,7 +22,7 @@ use Rattle.text.specs.inner.Forms.{lineRead}
 use Rattle.text.specs.declared.line.LineRead.{LineRead}
 use Rattle.text.specs.declared.line.LineRead.the-variants as R
 use Rattle.reader.specs.inner.State.{nothing, noConditions, afterRow, noTables, noJoins, noPairs, afterTable, afterJoin, oneMore, afterCondition, afterPair}
-use Rattle.reader.specs.inner.Survey.{opensAt, followsAt, nextRead, atPlace, told, readAt, afterRead, readingOf, tablesTold, joinsTold, conditionsTold, pairsTold, conditionPlace, conditionIn, withTables, stepIn, surveyOf, start, readFrom, onward, readLines}
+use Rattle.reader.specs.inner.Survey.{opensAt, followsAt, opensJoinAt, staysInJoinAt, nextRead, atPlace, told, readAt, afterRead, readingOf, tablesTold, joinsTold, conditionsTold, pairsTold, conditionPlace, conditionIn, withTables, stepIn, surveyOf, start, readFrom, onward, readLines}
 use Rattle.reader.specs.declared.survey.Reading.{Reading}
 use Rattle.reader.specs.declared.place.Place.{Place}
 use Rattle.reader.specs.declared.tables.Tables.{Tables}
@@ -56,6 +56,27 @@ module _ (p : Place) (n : ℕ) where
   unfolding followsAt
   follows-nowhere h = rw (ne-eqb (p .part) n h)
 
+module _ (p : Place) where
+  pub join-there : p .part ≤ 2 → some (record { part = 2 }) ≡ opensJoinAt p false
+  unfolding opensJoinAt
+  join-there h = rw (le-leb (p .part) 2 h)
+
+  pub full-outer-there : p .part ≤ 2 → some (record { part = 3 }) ≡ opensJoinAt p true
+  unfolding opensJoinAt
+  full-outer-there h = rw (le-leb (p .part) 2 h)
+
+  pub join-nowhere : (f : Bool) → 2 < p .part → none ≡ opensJoinAt p f
+  unfolding opensJoinAt
+  join-nowhere f h = rw (lt-leb (p .part) 2 h)
+
+  pub full-outer-stays : p .part ≡ 3 → followsAt p 3 ≡ staysInJoinAt p
+  unfolding staysInJoinAt
+  full-outer-stays h = rw (eq-eqb (p .part) 3 h)
+
+  pub join-stays : (p .part ≡ 3 → ⊥) → followsAt p 2 ≡ staysInJoinAt p
+  unfolding staysInJoinAt
+  join-stays h = rw (ne-eqb (p .part) 3 h)
+
 -- ---- one line more
 
 module _ (s : Reading) (x : LineRead) where
@@ -80,7 +101,7 @@ pub slot-taken : (n : ℕ) (cs : List Condition) (x : LineRead) {ds : List Condi
     → k < mostConditions → ds ≡ set cs k c → ds ≡ conditionsTold n cs x
 slot-taken n cs (R.Table i w) e g h d = absurd (omega arith)
 slot-taken n cs (R.Row i) e g h d = absurd (omega arith)
-slot-taken n cs (R.Join i a b) e g h d = absurd (omega arith)
+slot-taken n cs (R.Join i a b f) e g h d = absurd (omega arith)
 slot-taken n cs (R.Condition c) e g h d = d ∙ rw (e, g)
 slot-taken n cs (R.Order a b) e g h d = absurd (omega arith)
 slot-taken n cs R.NoForm e g h d = absurd (omega arith)
@@ -89,7 +110,7 @@ pub slot-past : (n : ℕ) (cs : List Condition) (x : LineRead) {ds : List Condit
     → mostConditions ≤ k → ds ≡ cs → ds ≡ conditionsTold n cs x
 slot-past n cs (R.Table i w) e l h d = d
 slot-past n cs (R.Row i) e l h d = d
-slot-past n cs (R.Join i a b) e l h d = d
+slot-past n cs (R.Join i a b f) e l h d = d
 slot-past n cs (R.Condition c) e l h d = d ∙ sym (set-out cs n c (omega arith))
 slot-past n cs (R.Order a b) e l h d = d
 slot-past n cs R.NoForm e l h d = d
@@ -106,7 +127,7 @@ told-room n cs x e l = ap length e ∙ go x ∙ l
     go : (x : LineRead) → length (conditionsTold n cs x) ≡ length cs
     go (R.Table i w) = refl
     go (R.Row i) = refl
-    go (R.Join i a b) = refl
+    go (R.Join i a b f) = refl
     go (R.Condition c) = length-set cs n c
     go (R.Order a b) = refl
     go R.NoForm = refl
@@ -185,7 +206,7 @@ bounded-told : (m n : ℕ) (s : Reading) (x : LineRead) → Bounded m s → m < 
 unfolding afterTable afterRow afterJoin afterCondition oneMore afterPair
 bounded-told m n s (R.Table k w) b h = (omega arith, omega arith, omega arith, omega arith, omega arith, omega arith)
 bounded-told m n s (R.Row k) b h = (omega arith, omega arith, omega arith, omega arith, omega arith, omega arith)
-bounded-told m n s (R.Join k a d) b h = (omega arith, omega arith, omega arith, omega arith, omega arith, omega arith)
+bounded-told m n s (R.Join k a d f) b h = (omega arith, omega arith, omega arith, omega arith, omega arith, omega arith)
 bounded-told m n s (R.Condition c) b h = (omega arith, omega arith, omega arith, omega arith, omega arith, omega arith)
 bounded-told m n s (R.Order a d) b h = (omega arith, omega arith, omega arith, omega arith, omega arith, omega arith)
 bounded-told m n s R.NoForm b h = (omega arith, omega arith, omega arith, omega arith, omega arith, omega arith)

@@ -17,7 +17,7 @@ use Rattle.reader.specs.inner.Survey.{start}
 use Rattle.reader.specs.inner.Agrees.{linesAfter}
 use Rattle.reader.proofs.laws.KeptLaws.{storedJoins, stored-joins, more, joins-kept, conditions-kept}
 use Rattle.reader.specs.inner.Query.{storedOf}
-use Rattle.reader.proofs.laws.QueryLaws.{done, stored-tables, stored-joined, stored-numbered, stored-paired, kept-columns, kept-pairs, back-pairs, sets-kept}
+use Rattle.reader.proofs.laws.QueryLaws.{done, stored-tables, stored-joined, stored-numbered, stored-paired, stored-full-outer, kept-columns, kept-pairs, back-pairs, sets-kept}
 
 map-take : {A B : Type 0} (f : A → B) (n : ℕ) (l : List A) → map f (take n l) ≡ take n (map f l)
 map-take f zero l = refl
@@ -80,3 +80,7 @@ module _ (ls : List Line) where
   pub pairs-whole : queryIn kept .pairs ≡ take mostPairs (queryOf (reportOf ls) .pairs)
   unfolding queryIn queryOf reportOf
   pairs-whole = rw (stored-paired ls) (ap (map pairIn) (kept-pairs ls) ∙ back-pairs mostPairs (pairsIn ls))
+
+  pub full-outer-whole : queryIn kept .fullOuter ≡ queryOf (reportOf ls) .fullOuter
+  unfolding queryIn queryOf reportOf
+  full-outer-whole = stored-full-outer ls

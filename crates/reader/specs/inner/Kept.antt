@@ -4,7 +4,7 @@ use Prim.Native.Nat.{ℕ, _+_}
 use lib.ListN.{length, set}
 use Rattle.cells.specs.declared.condition.Condition.{Condition}
 use Rattle.vocabulary.specs.inner.Stored.{keyKept}
-use Rattle.text.specs.Lines.{TableLine, tableLine, rowLine, JoinLine, joinLine, conditionLine, kindOf, OrderLine, orderLine}
+use Rattle.text.specs.Lines.{TableLine, tableLine, rowLine, JoinLine, joinLine, conditionLine, kindOf, sidesRead, isFullOuter, OrderLine, orderLine}
 use Rattle.reader.specs.inner.State.{afterTable, afterRow, afterJoin, afterCondition, afterPair}
 use Rattle.reader.specs.declared.tables.Tables.{Tables}
 use Rattle.reader.specs.declared.join_lines.Joins.{Joins}
@@ -17,7 +17,7 @@ tablesAfter t (rowLine zs ∷ ls) = tablesAfter (afterRow t (length zs)) ls
 
 unfoldable pub joinsAfter : Joins → List JoinLine → Joins
 joinsAfter j [] = j
-joinsAfter j (joinLine k a b ∷ ls) = joinsAfter (afterJoin j (kindOf k) a b) ls
+joinsAfter j (joinLine k a b ∷ ls) = joinsAfter (afterJoin j (kindOf k) (sidesRead k a b .0) (sidesRead k a b .1) (isFullOuter k)) ls
 joinsAfter j (conditionLine c ∷ ls) = joinsAfter (afterCondition j) ls
 
 -- the array of conditions, behind a count of them

@@ -1,5 +1,5 @@
 -- The query that a reading stands for, and question 3 on what the T and D lines left. For the functions of src/stored.rt. Specification
--- 2.9, 2.10, 2.13. Assumes nothing.
+-- 2.9, 2.10, 2.13, 2.17. Assumes nothing.
 use mathlib.Core.Bool.{Bool, _&&_}
 use Prim.Native.Nat.{_-_}
 use lib.Dec.{leb}
@@ -21,6 +21,7 @@ storedOf s = record {
   conditions = s .conditions;
   «pair_count» = s .pairs .count;
   pairs = s .pairs .pairs;
+  «full_outer» = s .joins .«full_outer»;
 }
 
 -- question 3 on what the T and D lines left

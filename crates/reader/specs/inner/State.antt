@@ -1,5 +1,5 @@
 -- What one line more does to the code's structs: tables, joins with their conditions, and pairs. Assumes nothing.
-use mathlib.Core.Bool.{true, Bool, _&&_}
+use mathlib.Core.Bool.{true, false, Bool, _&&_, _||_}
 use mathlib.Core.List.{List}
 use Prim.Native.Nat.{ℕ, _-_, _+_}
 use lib.Dec.{leb, eqb}
@@ -93,6 +93,7 @@ noJoins = record {
   joins = replicate mostJoins noJoin;
   latest = noJoin;
   «condition_count» = 0;
+  «full_outer» = false;
 }
 
 -- what stands in the array of conditions where no line has put one
@@ -102,12 +103,14 @@ nothing = record { table = 0; column = 0; operator = 0; side = Column 0 0 }
 unfoldable pub noConditions : List Condition
 noConditions = replicate mostConditions nothing
 
-unfoldable pub afterJoin : Joins → Kind → ℕ → ℕ → Joins
-afterJoin s k a b = record {
+-- `this` tells whether the J line is a full outer join
+unfoldable pub afterJoin : Joins → Kind → ℕ → ℕ → Bool → Joins
+afterJoin s k a b this = record {
   count = s .count + 1;
   joins = set (s .joins) (s .count - 1) (s .latest);
   latest = record { kind = k; left = a; right = b; first = s .«condition_count»; count = 0 };
   «condition_count» = s .«condition_count»;
+  «full_outer» = s .«full_outer» || this;
 }
 
 -- a join with a condition more
@@ -120,6 +123,7 @@ afterCondition s = record {
   joins = s .joins;
   latest = oneMore (s .latest);
   «condition_count» = s .«condition_count» + 1;
+  «full_outer» = s .«full_outer»;
 }
 
 -- ---- P lines

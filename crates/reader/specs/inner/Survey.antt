@@ -1,4 +1,5 @@
 -- The pass over the lines: the place of a line, the reading after it, and the reading after the lines that are left. Assumes nothing.
+use mathlib.Core.Bool.{Bool}
 use mathlib.Core.List.{List, [], _∷_}
 use mathlib.Core.Option.{Option, none, some}
 use Prim.Native.Nat.{ℕ}
@@ -35,12 +36,18 @@ opensAt p n = if leb (p .part) n then some (record { part = n }) else none
 unfoldable pub followsAt : Place → ℕ → Option Place
 followsAt p n = if eqb (p .part) n then some (record { part = n }) else none
 
+unfoldable pub opensJoinAt : Place → Bool → Option Place
+opensJoinAt p fullOuter = if leb (p .part) 2 then some (record { part = if fullOuter then 3 else 2 }) else none
+
+unfoldable pub staysInJoinAt : Place → Option Place
+staysInJoinAt p = if eqb (p .part) 3 then followsAt p 3 else followsAt p 2
+
 abbrev pub nextRead : Place → LineRead → Option Place
 nextRead p (R.Table n k) = opensAt p 1
 nextRead p (R.Row n) = followsAt p 1
-nextRead p (R.Join k a b) = opensAt p 2
-nextRead p (R.Condition c) = followsAt p 2
-nextRead p (R.Order a b) = opensAt p 3
+nextRead p (R.Join k a b f) = opensJoinAt p f
+nextRead p (R.Condition c) = staysInJoinAt p
+nextRead p (R.Order a b) = opensAt p 4
 nextRead p R.NoForm = none
 
 -- ---- one line more
@@ -61,7 +68,7 @@ withTables s t = record { place = s .place; tables = t; joins = s .joins; condit
 abbrev pub tablesTold : Tables → LineRead → Tables
 tablesTold t (R.Table n k) = afterTable t n k
 tablesTold t (R.Row n) = afterRow t n
-tablesTold t (R.Join k a b) = t
+tablesTold t (R.Join k a b f) = t
 tablesTold t (R.Condition c) = t
 tablesTold t (R.Order a b) = t
 tablesTold t R.NoForm = t
@@ -69,7 +76,7 @@ tablesTold t R.NoForm = t
 abbrev pub joinsTold : Joins → LineRead → Joins
 joinsTold j (R.Table n k) = j
 joinsTold j (R.Row n) = j
-joinsTold j (R.Join k a b) = afterJoin j k a b
+joinsTold j (R.Join k a b f) = afterJoin j k a b f
 joinsTold j (R.Condition c) = afterCondition j
 joinsTold j (R.Order a b) = j
 joinsTold j R.NoForm = j
@@ -78,7 +85,7 @@ joinsTold j R.NoForm = j
 abbrev pub conditionPlace : ℕ → LineRead → ℕ
 conditionPlace n (R.Table k w) = mostConditions
 conditionPlace n (R.Row k) = mostConditions
-conditionPlace n (R.Join k a b) = mostConditions
+conditionPlace n (R.Join k a b f) = mostConditions
 conditionPlace n (R.Condition c) = n
 conditionPlace n (R.Order a b) = mostConditions
 conditionPlace n R.NoForm = mostConditions
@@ -86,7 +93,7 @@ conditionPlace n R.NoForm = mostConditions
 abbrev pub conditionIn : LineRead → Condition
 conditionIn (R.Table k w) = nothing
 conditionIn (R.Row k) = nothing
-conditionIn (R.Join k a b) = nothing
+conditionIn (R.Join k a b f) = nothing
 conditionIn (R.Condition c) = c
 conditionIn (R.Order a b) = nothing
 conditionIn R.NoForm = nothing
@@ -95,7 +102,7 @@ conditionIn R.NoForm = nothing
 abbrev pub conditionsTold : ℕ → List Condition → LineRead → List Condition
 conditionsTold n cs (R.Table k w) = cs
 conditionsTold n cs (R.Row k) = cs
-conditionsTold n cs (R.Join k a b) = cs
+conditionsTold n cs (R.Join k a b f) = cs
 conditionsTold n cs (R.Condition c) = set cs n c
 conditionsTold n cs (R.Order a b) = cs
 conditionsTold n cs R.NoForm = cs
@@ -103,7 +110,7 @@ conditionsTold n cs R.NoForm = cs
 abbrev pub pairsTold : Pairs → LineRead → Pairs
 pairsTold p (R.Table n k) = p
 pairsTold p (R.Row n) = p
-pairsTold p (R.Join k a b) = p
+pairsTold p (R.Join k a b f) = p
 pairsTold p (R.Condition c) = p
 pairsTold p (R.Order a b) = afterPair p a b
 pairsTold p R.NoForm = p

@@ -1,9 +1,10 @@
 -- Laws of the fields of a line, by the tests that the code makes. Assumes nothing.
-use mathlib.Core.Path.{_≡_, refl, ap, _∙_}
-use mathlib.Core.Bool.{and-false}
+use mathlib.Core.Path.{_≡_, refl, sym, ap, _∙_}
+use mathlib.Core.Bool.{true, false, and-false}
 use mathlib.Core.List.{List, _∷_, []}
 use mathlib.Core.Option.{Option, none, some}
 use Prim.Native.Nat.{ℕ, _+_, _-_, _<_, _≤_}
+use Prim.Native.String.{String}
 use native.Mathlib.Omega.{arith}
 use lib.Dec.{eqb}
 use lib.ListN.{length, take, drop, getD, length-take, length-drop}
@@ -13,11 +14,11 @@ use borrow.Author.Tests.{ne-eqb}
 use Rattle.rows.specs.declared.kind.Kind.the-variants.{Inner, Outer}
 use Rattle.vocabulary.specs.inner.Stored.{keyKept}
 use Rattle.text.specs.Bytes.{Bytes, tab, bytes, sameBytes}
-use Rattle.text.specs.Lines.{field, numberField, oneOf, innerJoin, leftOuterJoin, kindOf, kindField, optional}
-use Rattle.text.proofs.laws.RangesLaws.{same-one, differ-one, differ-length}
+use Rattle.text.specs.Lines.{field, numberField, oneOf, JoinKind, innerJoin, leftOuterJoin, rightOuterJoin, fullOuterJoin, kindOf, isFullOuter, kindField, optional}
+use Rattle.text.proofs.laws.RangesLaws.{differ-one, differ-length}
 use Rattle.text.specs.inner.Parts.{until, fieldsFrom}
 use Rattle.text.proofs.laws.PartsLaws.{field-here, fields-none}
-use Rattle.text.specs.inner.Fields.{secondOf, bothOf, pairField, operatorRead, keptAs, storedKind, storedKey}
+use Rattle.text.specs.inner.Fields.{secondOf, bothOf, pairField, operatorRead, keptAs, exchanges, kindKept, storedKind, storedKey}
 
 -- ---- a field at a place
 
@@ -129,6 +130,14 @@ operator-other (a ∷ b ∷ d ∷ f) h k = simp and-false
 
 -- ---- kinds
 
+abbrev kindWords : List (String × JoinKind)
+kindWords = ("I", innerJoin) ∷ ("L", leftOuterJoin) ∷ ("R", rightOuterJoin) ∷ ("F", fullOuterJoin) ∷ []
+
+one-byte : (f : Bytes) (b : ℕ) → length f ≡ 1 → getD f 0 0 ≡ b → f ≡ b ∷ []
+one-byte [] b h e = absurd (omega arith)
+one-byte (a ∷ []) b h e = rw e
+one-byte (a ∷ c ∷ f) b h e = absurd (omega arith)
+
 module _ (l : Bytes) (at to : ℕ) (h : at ≤ length l) (e : to ≡ at + until tab (drop at l)) where
   part-length : to ≤ length l → length (take (to - at) (drop at l)) ≡ to - at
   part-length k = simp (length-take, length-drop) (omega arith)
@@ -139,39 +148,56 @@ module _ (l : Bytes) (at to : ℕ) (h : at ≤ length l) (e : to ≡ at + until 
   pub kind-long : to ≤ length l → (to ≡ at + 1 → ⊥) → none ≡ storedKind (kindField (fieldsFrom l at))
   unfolding keptAs kindField oneOf bytes
   kind-long k n =
-      let m : length (take (to - at) (drop at l)) ≡ 1 → ⊥ = λ q. n (omega (arith, part-length k)) in
-      ap storedKind (field-bad (oneOf (("I", innerJoin) ∷ ("L", leftOuterJoin) ∷ [])) l at to h e
-      (rw (differ-length (take (to - at) (drop at l)) 73 m, differ-length (take (to - at) (drop at l)) 76 m)))
+      let f : Bytes = take (to - at) (drop at l) in
+      let m : length f ≡ 1 → ⊥ = λ q. n (omega (arith, part-length k)) in
+      ap storedKind (field-bad (oneOf kindWords) l at to h e
+      (rw (differ-length f 73 m, differ-length f 76 m, differ-length f 82 m, differ-length f 70 m)))
+
+  -- a byte that is a kind's word
+  kind-byte : (b : ℕ) {j : JoinKind} → some j ≡ oneOf kindWords (b ∷ []) → to ≤ length l → to ≡ at + 1 → getD l at 0 ≡ b
+      → some (kindKept j, fieldsFrom l (to + 1)) ≡ storedKind (kindField (fieldsFrom l at))
+  unfolding keptAs kindField
+  kind-byte b w k n g =
+      ap storedKind (field-some (oneOf kindWords) l at to h e
+      (w ∙ ap (oneOf kindWords) (sym (one-byte (take (to - at) (drop at l)) b (part-length k ∙ omega arith) (part-first n ∙ g)))))
 
   pub kind-inner : to ≤ length l → to ≡ at + 1 → getD l at 0 ≡ 73
-      → some (Inner, fieldsFrom l (to + 1)) ≡ storedKind (kindField (fieldsFrom l at))
-  unfolding keptAs kindField oneOf bytes kindOf
-  kind-inner k n b =
-      let m : length (take (to - at) (drop at l)) ≡ 1 = part-length k ∙ omega arith in
-      ap storedKind (field-some (oneOf (("I", innerJoin) ∷ ("L", leftOuterJoin) ∷ [])) l at to {a = innerJoin} h e
-      (rw (same-one (take (to - at) (drop at l)) 73 m (part-first n ∙ b))))
+      → some ((Inner, false, false), fieldsFrom l (to + 1)) ≡ storedKind (kindField (fieldsFrom l at))
+  unfolding oneOf bytes sameBytes kindOf exchanges isFullOuter
+  kind-inner = kind-byte 73 {j = innerJoin} refl
 
   pub kind-left : to ≤ length l → to ≡ at + 1 → getD l at 0 ≡ 76
-      → some (Outer, fieldsFrom l (to + 1)) ≡ storedKind (kindField (fieldsFrom l at))
-  unfolding keptAs kindField oneOf bytes kindOf
-  kind-left k n b =
-      let m : length (take (to - at) (drop at l)) ≡ 1 = part-length k ∙ omega arith in
-      let d : getD (take (to - at) (drop at l)) 0 0 ≡ 73 → ⊥ = λ q. omega (arith, part-first n) in
-      ap storedKind (field-some (oneOf (("I", innerJoin) ∷ ("L", leftOuterJoin) ∷ [])) l at to {a = leftOuterJoin} h e
-      (rw (differ-one (take (to - at) (drop at l)) 73 d, same-one (take (to - at) (drop at l)) 76 m (part-first n ∙ b))))
+      → some ((Outer, false, false), fieldsFrom l (to + 1)) ≡ storedKind (kindField (fieldsFrom l at))
+  unfolding oneOf bytes sameBytes kindOf exchanges isFullOuter
+  kind-left = kind-byte 76 {j = leftOuterJoin} refl
 
-  pub kind-other : to ≡ at + 1 → (getD l at 0 ≡ 73 → ⊥) → (getD l at 0 ≡ 76 → ⊥)
+  pub kind-right : to ≤ length l → to ≡ at + 1 → getD l at 0 ≡ 82
+      → some ((Outer, true, false), fieldsFrom l (to + 1)) ≡ storedKind (kindField (fieldsFrom l at))
+  unfolding oneOf bytes sameBytes kindOf exchanges isFullOuter
+  kind-right = kind-byte 82 {j = rightOuterJoin} refl
+
+  pub kind-full-outer : to ≤ length l → to ≡ at + 1 → getD l at 0 ≡ 70
+      → some ((Outer, false, true), fieldsFrom l (to + 1)) ≡ storedKind (kindField (fieldsFrom l at))
+  unfolding oneOf bytes sameBytes kindOf exchanges isFullOuter
+  kind-full-outer = kind-byte 70 {j = fullOuterJoin} refl
+
+  pub kind-other : to ≡ at + 1 → (getD l at 0 ≡ 73 → ⊥) → (getD l at 0 ≡ 76 → ⊥) → (getD l at 0 ≡ 82 → ⊥) → (getD l at 0 ≡ 70 → ⊥)
       → none ≡ storedKind (kindField (fieldsFrom l at))
   unfolding keptAs kindField oneOf bytes
-  kind-other n a b =
-      let d : getD (take (to - at) (drop at l)) 0 0 ≡ 73 → ⊥ = λ q. a (omega (arith, part-first n)) in
-      let g : getD (take (to - at) (drop at l)) 0 0 ≡ 76 → ⊥ = λ q. b (omega (arith, part-first n)) in
-      ap storedKind (field-bad (oneOf (("I", innerJoin) ∷ ("L", leftOuterJoin) ∷ [])) l at to h e
-      (rw (differ-one (take (to - at) (drop at l)) 73 d, differ-one (take (to - at) (drop at l)) 76 g)))
+  kind-other n a b c d =
+      let f : Bytes = take (to - at) (drop at l) in
+      let g = part-first n in
+      ap storedKind (field-bad (oneOf kindWords) l at to h e
+      (rw (
+        differ-one f 73 (λ q. a (omega (arith, g))),
+        differ-one f 76 (λ q. b (omega (arith, g))),
+        differ-one f 82 (λ q. c (omega (arith, g))),
+        differ-one f 70 (λ q. d (omega (arith, g))),
+      )))
 
 pub kind-past : (l : Bytes) (at : ℕ) → length l < at → none ≡ storedKind (kindField (fieldsFrom l at))
 unfolding keptAs kindField
-kind-past l at h = ap storedKind (field-past (oneOf (("I", innerJoin) ∷ ("L", leftOuterJoin) ∷ [])) l at h)
+kind-past l at h = ap storedKind (field-past (oneOf kindWords) l at h)
 
 -- ---- a key column
 

@@ -1,5 +1,6 @@
 -- Laws of the forms of lines behind their letters, field after field as the code reads them. Assumes nothing.
 use mathlib.Core.Path.{_≡_, refl, sym, ap, _∙_}
+use mathlib.Core.Bool.{Bool, true, false}
 use mathlib.Core.List.{List, [], _∷_}
 use mathlib.Core.Option.{Option, none, some}
 use Prim.Native.Nat.{ℕ, _+_, _<_, _≤_, _-_}
@@ -8,16 +9,18 @@ use native.Mathlib.Omega.{arith}
 use lib.IntN.{ℤ}
 use lib.Signed.{mag}
 use lib.ListN.{length, drop, take}
+use Rattle.cells.proofs.laws.BoolLaws.{clash}
 use Rattle.cells.specs.declared.condition.Side.the-variants.{Column, Constant}
 use Rattle.rows.specs.declared.kind.Kind.{Kind}
+use Rattle.vocabulary.specs.Report.{Pair}
 use Rattle.vocabulary.specs.inner.Stored.{keyKept}
 use Rattle.text.specs.Bytes.{Bytes, tab}
 use Rattle.text.specs.Numbers.{constant, cell}
-use Rattle.text.specs.Lines.{Form, _>>=_, numberField, optional, end, TableLine, tableLine, OrderLine, orderLine, tablesPart, orderPart, JoinKind, kindOf, JoinLine, joinLine, joinsPart, kindField, conditionLine, field, operatorField, cellFields, readAll, rowLine, both}
+use Rattle.text.specs.Lines.{Form, _>>=_, numberField, optional, end, TableLine, tableLine, OrderLine, orderLine, tablesPart, orderPart, JoinKind, innerJoin, leftOuterJoin, rightOuterJoin, fullOuterJoin, kindOf, sidesRead, JoinLine, joinLine, joinsPart, kindField, conditionLine, field, operatorField, cellFields, readAll, rowLine, both}
 use Rattle.text.specs.inner.Parts.{until, fieldsFrom}
 use Rattle.text.proofs.laws.PartsLaws.{field-here, fields-none}
 use Rattle.text.proofs.laws.RangesLaws.{constant-fits}
-use Rattle.text.specs.inner.Fields.{pairField, bothOf, secondOf, keptAs, storedKind, storedKey}
+use Rattle.text.specs.inner.Fields.{pairField, bothOf, secondOf, keptAs, exchanges, KindKept, kindKept, storedKind, storedKey}
 use Rattle.text.proofs.laws.FieldsLaws.{fieldOf, field-cons}
 use Rattle.text.specs.declared.line.LineRead.{LineRead}
 use Rattle.text.specs.declared.line.LineRead.the-variants as R
@@ -151,34 +154,63 @@ module _ (fs : List Bytes) where
 abbrev sides : JoinKind → Form JoinLine
 sides j = numberField >>= λ a. numberField >>= λ b. end (joinLine j a b)
 
+-- the sides as they are read, by whether they are exchanged
+sides-exchanged : (j : JoinKind) (a b : ℕ) → true ≡ exchanges j → (b, a) ≡ sidesRead j a b
+unfolding exchanges sidesRead
+sides-exchanged innerJoin a b e = clash cc
+sides-exchanged leftOuterJoin a b e = clash cc
+sides-exchanged rightOuterJoin a b e = refl
+sides-exchanged fullOuterJoin a b e = clash cc
+
+sides-kept : (j : JoinKind) (a b : ℕ) → false ≡ exchanges j → (a, b) ≡ sidesRead j a b
+unfolding exchanges sidesRead
+sides-kept innerJoin a b e = refl
+sides-kept leftOuterJoin a b e = refl
+sides-kept rightOuterJoin a b e = clash cc
+sides-kept fullOuterJoin a b e = refl
+
+-- a J line as it is read: its kind, its sides, and whether it is a full outer join
+abbrev joinRead : Kind → Pair → Bool → LineRead
+joinRead k s f = R.Join k (s .0) (s .1) f
+
 module _ (fs : List Bytes) where
   pub join-none : none ≡ storedKind (kindField fs) → R.NoForm ≡ formRead joinsPart (joinForm fs)
   unfolding joinForm
-  join-none e = ap (formRead joinsPart) (then-none kindField sides fs (kept-none kindOf (kindField fs) e))
+  join-none e = ap (formRead joinsPart) (then-none kindField sides fs (kept-none kindKept (kindField fs) e))
 
-  pub join-no-sides : {k : Kind} {gs : List Bytes} → some (k, gs) ≡ storedKind (kindField fs) → none ≡ pairField gs
-      → R.NoForm ≡ formRead joinsPart (joinForm fs)
-  unfolding joinForm
-  join-no-sides {k} {gs} e g =
-      let (j, h, i) = kept-some kindOf (kindField fs) e in
-      ap (formRead joinsPart) (pair-none (λ a b. end (joinLine j a b)) gs g ∙ then-some kindField sides fs i)
+  module _ {k : KindKept} {gs : List Bytes} (e : some (k, gs) ≡ storedKind (kindField fs)) where
+    pub join-no-sides : none ≡ pairField gs → R.NoForm ≡ formRead joinsPart (joinForm fs)
+    unfolding joinForm
+    join-no-sides g =
+        let (j, h, i) = kept-some kindKept (kindField fs) e in
+        ap (formRead joinsPart) (pair-none (λ a b. end (joinLine j a b)) gs g ∙ then-some kindField sides fs i)
 
-  pub join-more : {k : Kind} {a b : ℕ} {gs hs : List Bytes} → some (k, gs) ≡ storedKind (kindField fs)
-      → some ((a, b), hs) ≡ pairField gs → ((j : JoinKind) → none ≡ end (joinLine j a b) hs)
-      → R.NoForm ≡ formRead joinsPart (joinForm fs)
-  unfolding joinForm
-  join-more {k} {a} {b} {gs} {hs} e g x =
-      let (j, h, i) = kept-some kindOf (kindField fs) e in
-      ap (formRead joinsPart) (x j ∙ pair-some (λ a b. end (joinLine j a b)) gs g ∙ then-some kindField sides fs i)
+    module _ {a b : ℕ} {hs : List Bytes} (g : some ((a, b), hs) ≡ pairField gs) where
+      pub join-more : ((j : JoinKind) → none ≡ end (joinLine j a b) hs) → R.NoForm ≡ formRead joinsPart (joinForm fs)
+      unfolding joinForm
+      join-more x =
+          let (j, h, i) = kept-some kindKept (kindField fs) e in
+          ap (formRead joinsPart) (x j ∙ pair-some (λ a b. end (joinLine j a b)) gs g ∙ then-some kindField sides fs i)
 
-  pub join-end : {k : Kind} {a b : ℕ} {gs hs : List Bytes} → some (k, gs) ≡ storedKind (kindField fs)
-      → some ((a, b), hs) ≡ pairField gs → ((j : JoinKind) → some (joinLine j a b, []) ≡ end (joinLine j a b) hs)
-      → R.Join k a b ≡ formRead joinsPart (joinForm fs)
-  unfolding joinForm
-  join-end {k} {a} {b} {gs} {hs} e g x =
-      let (j, h, i) = kept-some kindOf (kindField fs) e in
-      ap (λ (y : Kind). R.Join y a b) h
-      ∙ ap (formRead joinsPart) (x j ∙ pair-some (λ a b. end (joinLine j a b)) gs g ∙ then-some kindField sides fs i)
+      -- the sides of a J line, as its kind says
+      join-end : (s : Pair) → ((j : JoinKind) → k .1 ≡ exchanges j → s ≡ sidesRead j a b)
+          → ((j : JoinKind) → some (joinLine j a b, []) ≡ end (joinLine j a b) hs)
+          → joinRead (k .0) s (k .2) ≡ formRead joinsPart (joinForm fs)
+      unfolding joinForm
+      join-end s c x =
+          let (j, h, i) = kept-some kindKept (kindField fs) e in
+          ap (λ (y : Kind). joinRead y s (k .2)) (ap (λ (y : KindKept). y .0) h)
+          ∙ ap (λ (y : Pair). joinRead (kindOf j) y (k .2)) (c j (ap (λ (y : KindKept). y .1) h))
+          ∙ ap (λ (y : Bool). joinRead (kindOf j) (sidesRead j a b) y) (ap (λ (y : KindKept). y .2) h)
+          ∙ ap (formRead joinsPart) (x j ∙ pair-some (λ a b. end (joinLine j a b)) gs g ∙ then-some kindField sides fs i)
+
+      pub join-exchanged : k .1 ≡ true → ((j : JoinKind) → some (joinLine j a b, []) ≡ end (joinLine j a b) hs)
+          → R.Join (k .0) b a (k .2) ≡ formRead joinsPart (joinForm fs)
+      join-exchanged t x = join-end (b, a) (λ j c. sides-exchanged j a b (sym t ∙ c)) x
+
+      pub join-as-written : k .1 ≡ false → ((j : JoinKind) → some (joinLine j a b, []) ≡ end (joinLine j a b) hs)
+          → R.Join (k .0) a b (k .2) ≡ formRead joinsPart (joinForm fs)
+      join-as-written t x = join-end (a, b) (λ j c. sides-kept j a b (sym t ∙ c)) x
 
 -- what follows the first column and the operator of a condition
 abbrev columnSide : ℕ → ℕ → ℕ → Form JoinLine

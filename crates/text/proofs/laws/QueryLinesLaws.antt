@@ -7,7 +7,7 @@ use Rattle.cells.proofs.laws.BoolLaws.{clash}
 use Rattle.text.specs.Lines.{OrderLine, Line, tablesPart, joinsPart, orderPart}
 use Rattle.text.specs.LineParts.{picked, ofTables, ofJoins}
 use Rattle.text.proofs.laws.LinePartsLaws.{picked-keep}
-use Rattle.text.specs.Reading.{tablesOf, joinsOf, conditionsOf, reportOf}
+use Rattle.text.specs.Reading.{tablesOf, joinsOf, conditionsOf, fullOuterOf, reportOf}
 use Rattle.text.specs.QueryLines.{isOrder, queryLines}
 
 -- what is picked of no line of the order is the same of both
@@ -34,3 +34,7 @@ module _ (a b : List Line) (same : queryLines a ≡ queryLines b) where
   pub same-conditions : reportOf a .conditions ≡ reportOf b .conditions
   unfolding reportOf ofJoins
   same-conditions = ap conditionsOf (query-picked ofJoins (λ x. refl) a b same)
+
+  pub same-full-outer : reportOf a .fullOuter ≡ reportOf b .fullOuter
+  unfolding reportOf ofJoins
+  same-full-outer = ap fullOuterOf (query-picked ofJoins (λ x. refl) a b same)

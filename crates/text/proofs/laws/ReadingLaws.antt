@@ -21,10 +21,10 @@ use Rattle.rows.proofs.laws.ListLaws.{here, there, range-intro, range-elim}
 use Rattle.rows.proofs.laws.ShapesLaws.{BlanksRight}
 use Rattle.vocabulary.specs.Report.{Join, queryOf, conditionNumbers, Report}
 use Rattle.vocabulary.proofs.laws.WellRead.{WellRead, OfJoins}
-use Rattle.text.specs.Lines.{Line, JoinKind, innerJoin, leftOuterJoin, kindOf, JoinLine, joinLine, conditionLine, linesOf, joinsPart, OrderLine, orderLine, orderPart, tableLine, rowLine, tablesPart}
+use Rattle.text.specs.Lines.{Line, JoinKind, innerJoin, leftOuterJoin, rightOuterJoin, fullOuterJoin, kindOf, isFullOuter, JoinLine, joinLine, conditionLine, linesOf, joinsPart, OrderLine, orderLine, orderPart, tableLine, rowLine, tablesPart}
 use Rattle.text.specs.LineParts.{tableLines, joinLines, also, picked, ofTables, ofJoins}
 use Rattle.text.specs.Bytes.{Bytes}
-use Rattle.text.specs.Reading.{firstRows, joinsOf, conditionsOf, firstConditions, conditionsIn, reportOf, textLines, readReport, beforeAll, placed, ifPlaced, Place, opens, follows, next}
+use Rattle.text.specs.Reading.{firstRows, joinsOf, conditionsOf, firstConditions, conditionsIn, reportOf, textLines, readReport, beforeAll, placed, ifPlaced, Place, opens, follows, opensJoin, staysInJoin, next}
 
 -- ---- what the lines of a text say
 
@@ -37,6 +37,8 @@ line-plain : (k : JoinKind) → BlanksRight (kindOf k)
 unfolding kindOf
 line-plain innerJoin = tt
 line-plain leftOuterJoin = tt
+line-plain rightOuterJoin = tt
+line-plain fullOuterJoin = tt
 
 joins-plain : (i : ℕ) (ls : List JoinLine) (j : Join) → j isIn joinsOf i ls → BlanksRight (j .kind)
 unfolding joinsOf
@@ -112,14 +114,28 @@ in-part : (t : Bool) (n : ℕ) (q : Place) → _≡_ {A = Option Place} (if t th
 in-part true n q e = let z : _≡_ {A = Place} (record { part = n }) q = cc in ap (λ (r : Place). r .part) (sym z)
 in-part false n q e = clash cc
 
+-- a line of the joins is in their part, or in that of a full outer join
+join-part : (p q : Place) (f : Bool) → opensJoin p f ≡ some q → (q .part ≡ 2) ⊎ (q .part ≡ 3)
+unfolding opensJoin
+join-part p q true e = inr (in-part (leb (p .part) 2) 3 q e)
+join-part p q false e = inl (in-part (leb (p .part) 2) 2 q e)
+
+condition-part : (p q : Place) → staysInJoin p ≡ some q → (q .part ≡ 2) ⊎ (q .part ≡ 3)
+unfolding staysInJoin follows
+condition-part p q e = go (eqb (p .part) 3) e
+  where
+    go : (t : Bool) → _≡_ {A = Option Place} (if t then follows p 3 else follows p 2) (some q) → (q .part ≡ 2) ⊎ (q .part ≡ 3)
+    go true e = inr (in-part (eqb (p .part) 3) 3 q e)
+    go false e = inl (in-part (eqb (p .part) 2) 2 q e)
+
 joins-behind : (p q : Place) (x : JoinLine) → next p (joinsPart x) ≡ some q → q .part ≡ 1 → ⊥
-unfolding next opens follows
-joins-behind p q (joinLine k a b) e h = omega (arith, in-part (leb (p .part) 2) 2 q e)
-joins-behind p q (conditionLine c) e h = omega (arith, in-part (eqb (p .part) 2) 2 q e)
+unfolding next
+joins-behind p q (joinLine k a b) e h = ⊎-elim (λ z. omega arith) (λ z. omega arith) (join-part p q (isFullOuter k) e)
+joins-behind p q (conditionLine c) e h = ⊎-elim (λ z. omega arith) (λ z. omega arith) (condition-part p q e)
 
 order-behind : (p q : Place) (x : OrderLine) → next p (orderPart x) ≡ some q → q .part ≡ 1 → ⊥
 unfolding next opens
-order-behind p q (orderLine a b) e h = omega (arith, in-part (leb (p .part) 3) 3 q e)
+order-behind p q (orderLine a b) e h = omega (arith, in-part (leb (p .part) 4) 4 q e)
 
 rest-placed : (p : Place) (x : Line) (ls : List Line) → placed p (x ∷ ls) ≡ true → (q : Place) × (next p x ≡ some q) × (placed q ls ≡ true)
 unfolding placed
@@ -149,27 +165,31 @@ no-early-row bs ls e = early-from beforeAll ls (λ z. omega arith) (text-lines b
 
 -- ---- no C or K line comes before the first J line
 
-first-from : (p : Place) (ls : List Line) → (p .part ≡ 2 → ⊥) → placed p ls ≡ true → firstConditions 0 (joinLines ls) ≡ []
-unfolding next opens follows picked also ofJoins firstConditions
-first-from p [] n h = refl
-first-from p (tablesPart (tableLine c k) ∷ ls) n h =
+first-from : (p : Place) (ls : List Line) → (p .part ≡ 2 → ⊥) → (p .part ≡ 3 → ⊥) → placed p ls ≡ true
+    → firstConditions 0 (joinLines ls) ≡ []
+unfolding next opens follows staysInJoin picked also ofJoins firstConditions
+first-from p [] n m h = refl
+first-from p (tablesPart (tableLine c k) ∷ ls) n m h =
     let (q, e, k) = rest-placed p (tablesPart (tableLine c k)) ls h in
-    first-from q ls (λ z. omega (arith, in-part (leb (p .part) 1) 1 q e)) k
-first-from p (tablesPart (rowLine zs) ∷ ls) n h =
+    let i = in-part (leb (p .part) 1) 1 q e in
+    first-from q ls (λ z. omega (arith, i)) (λ z. omega (arith, i)) k
+first-from p (tablesPart (rowLine zs) ∷ ls) n m h =
     let (q, e, k) = rest-placed p (tablesPart (rowLine zs)) ls h in
-    first-from q ls (λ z. omega (arith, in-part (eqb (p .part) 1) 1 q e)) k
-first-from p (joinsPart (joinLine i a b) ∷ ls) n h = refl
-first-from p (joinsPart (conditionLine c) ∷ ls) n h =
+    let i = in-part (eqb (p .part) 1) 1 q e in
+    first-from q ls (λ z. omega (arith, i)) (λ z. omega (arith, i)) k
+first-from p (joinsPart (joinLine i a b) ∷ ls) n m h = refl
+first-from p (joinsPart (conditionLine c) ∷ ls) n m h =
     let (q, e, _) = rest-placed p (joinsPart (conditionLine c)) ls h in
-    let z : none ≡ some q = rw (ne-eqb (p .part) 2 n) at e in clash cc
-first-from p (orderPart (orderLine a b) ∷ ls) n h =
+    let z : none ≡ some q = rw (ne-eqb (p .part) 3 m, ne-eqb (p .part) 2 n) at e in clash cc
+first-from p (orderPart (orderLine a b) ∷ ls) n m h =
     let (q, e, k) = rest-placed p (orderPart (orderLine a b)) ls h in
-    first-from q ls (λ z. omega (arith, in-part (leb (p .part) 3) 3 q e)) k
+    let i = in-part (leb (p .part) 4) 4 q e in
+    first-from q ls (λ z. omega (arith, i)) (λ z. omega (arith, i)) k
 
 -- each condition of a text is one of a join
 pub lines-of-joins : (bs : Bytes) (ls : List Line) → textLines bs ≡ some ls → OfJoins (queryOf (reportOf ls))
 unfolding queryOf reportOf conditionNumbers beforeAll
 lines-of-joins bs ls e c m =
     let (a, b) = range-elim 0 (length (conditionsIn ls)) m in
-    ⊎-elim (λ n. elim (subst (λ (l : List ℕ). c isIn l) (first-from beforeAll ls (λ z. omega arith) (text-lines bs ls e .1)) n) [ ]) (λ z. z)
+    ⊎-elim (λ n. elim (subst (λ (l : List ℕ). c isIn l) (first-from beforeAll ls (λ z. omega arith) (λ z. omega arith) (text-lines bs ls e .1)) n) [ ]) (λ z. z)
     (joins-every 0 (joinLines ls) c (a, b))

@@ -3,9 +3,9 @@ use mathlib.Core.List.{List}
 use mathlib.Core.Option.{Option, none, some}
 use Prim.Native.Nat.{ℕ}
 use lib.IntN.{ℤ}
-use Rattle.rows.specs.declared.kind.Kind.{Kind}
 use Rattle.text.specs.Bytes.{Bytes}
 use Rattle.text.specs.inner.Parts.{fieldsFrom}
+use Rattle.text.specs.inner.Fields.{KindKept}
 use Rattle.text.specs.declared.field.NumberAt.{NumberAt}
 use Rattle.text.specs.declared.field.NumberAt.the-variants as N
 use Rattle.text.specs.declared.field.PairAt.{PairAt}
@@ -41,9 +41,9 @@ abbrev pub operatorAt : Bytes → OperatorAt → Option (ℕ × List Bytes)
 operatorAt l (O.Value v next) = some (v, fieldsFrom l next)
 operatorAt l O.Bad = none
 
--- the field of a join's kind
-abbrev pub kindAt : Bytes → KindAt → Option (Kind × List Bytes)
-kindAt l (K.Value k next) = some (k, fieldsFrom l next)
+-- the field of a join's kind, as it is kept
+abbrev pub kindAt : Bytes → KindAt → Option (KindKept × List Bytes)
+kindAt l (K.Value k exchanged fullOuter next) = some ((k, exchanged, fullOuter), fieldsFrom l next)
 kindAt l K.Bad = none
 
 -- the field of a key column, as it is kept

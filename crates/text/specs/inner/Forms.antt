@@ -6,16 +6,17 @@ use Rattle.cells.specs.declared.condition.Side.the-variants.{Column, Constant}
 use Rattle.vocabulary.specs.inner.Stored.{keyKept}
 use Rattle.text.specs.Bytes.{Bytes}
 use Rattle.text.specs.Numbers.{constant}
-use Rattle.text.specs.Lines.{kindOf, tableLine, rowLine, joinLine, conditionLine, orderLine, Line, tablesPart, joinsPart, orderPart, TableLine, Form, _>>=_, _>>_, end, optional, numberField, cellFields, JoinLine, kindField, operatorField, field, OrderLine}
+use Rattle.text.specs.Lines.{kindOf, sidesRead, isFullOuter, tableLine, rowLine, joinLine, conditionLine, orderLine, Line, tablesPart, joinsPart, orderPart, TableLine, Form, _>>=_, _>>_, end, optional, numberField, cellFields, JoinLine, kindField, operatorField, field, OrderLine}
 use Rattle.text.specs.declared.line.LineRead.{LineRead}
 use Rattle.text.specs.declared.line.LineRead.the-variants as R
 
--- what the reading of a line says: of a T line, its key column as it is kept; of a D line, how many cells it has
+-- what the reading of a line says: of a T line, its key column as it is kept; of a D line, how many cells it has; of a J line, its kind and
+-- sides as they are read, and whether it is a full outer join
 abbrev pub lineRead : Option Line → LineRead
 lineRead none = R.NoForm
 lineRead (some (tablesPart (tableLine n k))) = R.Table n (keyKept k)
 lineRead (some (tablesPart (rowLine zs))) = R.Row (length zs)
-lineRead (some (joinsPart (joinLine k l r))) = R.Join (kindOf k) l r
+lineRead (some (joinsPart (joinLine k l r))) = R.Join (kindOf k) (sidesRead k l r .0) (sidesRead k l r .1) (isFullOuter k)
 lineRead (some (joinsPart (conditionLine c))) = R.Condition c
 lineRead (some (orderPart (orderLine l r))) = R.Order l r
 

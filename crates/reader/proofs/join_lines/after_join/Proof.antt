@@ -4,15 +4,18 @@ use Rattle.reader.specs.inner.State.{afterJoin}
 use Rattle.reader.proofs.join_lines.after_join.Statement.{statement}
 use Rattle.reader.proofs.join_lines.after_join.Tie as tie
 
+either-requires : tie.Need-either-requires
+either-requires c κs = search needs
+
 closed-joins-requires : tie.Need-closed-joins-requires
 closed-joins-requires c κs = search needs
 
-add-t9 : tie.Need-add-t9
-add-t9 c = search needs
+add-t11 : tie.Need-add-t11
+add-t11 c = search needs
 
 returns : tie.Need-returns
 unfolding afterJoin
-returns c = rw (c .closed-joins .ensures)
+returns c = rw (c .closed-joins .ensures, c .before .before .before .either .ensures)
 
 pub after-join-spec : {M : Type 1} → statement M
-after-join-spec = tie.close (tie.spec closed-joins-requires add-t9 returns)
+after-join-spec = tie.close (tie.spec either-requires closed-joins-requires add-t11 returns)

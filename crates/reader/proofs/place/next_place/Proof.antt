@@ -20,20 +20,20 @@ follows-requires c κs = search needs
 enum-known-x-3 : tie.Need-enum-known-x-3
 enum-known-x-3 c = search needs
 
-opens-requires-2 : tie.Need-opens-requires-2
-opens-requires-2 c κs = search needs
+opens-join-requires : tie.Need-opens-join-requires
+opens-join-requires c κs = search needs
 
 enum-known-x-4 : tie.Need-enum-known-x-4
 enum-known-x-4 c = search needs
 
-follows-requires-2 : tie.Need-follows-requires-2
-follows-requires-2 c κs = search needs
+stays-in-join-requires : tie.Need-stays-in-join-requires
+stays-in-join-requires c κs = search needs
 
 enum-known-x-5 : tie.Need-enum-known-x-5
 enum-known-x-5 c = search needs
 
-opens-requires-3 : tie.Need-opens-requires-3
-opens-requires-3 c κs = search needs
+opens-requires-2 : tie.Need-opens-requires-2
+opens-requires-2 c κs = search needs
 
 enum-told : tie.Need-enum-told
 enum-told c = search needs
@@ -45,13 +45,13 @@ returns-2 : tie.Need-returns-2
 returns-2 c = c .follows .ensures ∙ ap (nextRead _) (sym (c .before .before .x2 .given .1))
 
 returns-3 : tie.Need-returns-3
-returns-3 c = c .opens2 .ensures ∙ ap (nextRead _) (sym (c .before .before .x3 .given .1))
+returns-3 c = c .opens-join .ensures ∙ ap (nextRead _) (sym (c .before .before .x3 .given .1))
 
 returns-4 : tie.Need-returns-4
-returns-4 c = c .follows2 .ensures ∙ ap (nextRead _) (sym (c .before .before .x4 .given .1))
+returns-4 c = c .stays-in-join .ensures ∙ ap (nextRead _) (sym (c .before .before .x4 .given .1))
 
 returns-5 : tie.Need-returns-5
-returns-5 c = c .opens3 .ensures ∙ ap (nextRead _) (sym (c .before .before .x5 .given .1))
+returns-5 c = c .opens2 .ensures ∙ ap (nextRead _) (sym (c .before .before .x5 .given .1))
 
 returns-6 : tie.Need-returns-6
 returns-6 c = search needs
@@ -65,11 +65,11 @@ next-place-spec =
     enum-known-x-2
     follows-requires
     enum-known-x-3
-    opens-requires-2
+    opens-join-requires
     enum-known-x-4
-    follows-requires-2
+    stays-in-join-requires
     enum-known-x-5
-    opens-requires-3
+    opens-requires-2
     enum-told
     returns
     returns-2

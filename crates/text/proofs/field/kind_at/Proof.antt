@@ -1,6 +1,6 @@
--- `text::field::kind_at` meets its contract: a field of one byte, I or L. Assumes nothing.
+-- `text::field::kind_at` meets its contract: a field of one byte, I, L, R or F. Assumes nothing.
 use borrow.Author.Needs.{needs}
-use Rattle.text.proofs.laws.FieldsLaws.{kind-past, kind-long, kind-inner, kind-left, kind-other}
+use Rattle.text.proofs.laws.FieldsLaws.{kind-past, kind-long, kind-inner, kind-left, kind-right, kind-full-outer, kind-other}
 use Rattle.text.specs.Bytes.{tab}
 use Rattle.text.proofs.field.kind_at.Statement.{statement}
 use Rattle.text.proofs.field.kind_at.Tie as tie
@@ -43,12 +43,33 @@ returns-4 c =
     let p = d .before in
     kind-left _ _ _ (p .before .if1 .left) (p .part-end .ensures .0) (p .part-end .ensures .2) (d .if2 .left) (c .if4 .taken)
 
+add-t14 : tie.Need-add-t14
+add-t14 c = search needs
+
 returns-5 : tie.Need-returns-5
 unfolding tab
 returns-5 c =
-    let d = c .before .before .before in
+    let d = c .before .before .before .before in
     let p = d .before in
-    kind-other _ _ _ (p .before .if1 .left) (p .part-end .ensures .0) (d .if2 .left) (c .before .if3 .left) (c .if4 .left)
+    kind-right _ _ _ (p .before .if1 .left) (p .part-end .ensures .0) (p .part-end .ensures .2) (d .if2 .left) (c .if5 .taken)
+
+add-t16 : tie.Need-add-t16
+add-t16 c = search needs
+
+returns-6 : tie.Need-returns-6
+unfolding tab
+returns-6 c =
+    let d = c .before .before .before .before .before in
+    let p = d .before in
+    kind-full-outer _ _ _ (p .before .if1 .left) (p .part-end .ensures .0) (p .part-end .ensures .2) (d .if2 .left) (c .if6 .taken)
+
+returns-7 : tie.Need-returns-7
+unfolding tab
+returns-7 c =
+    let d = c .before .before .before .before .before in
+    let p = d .before in
+    kind-other _ _ _ (p .before .if1 .left) (p .part-end .ensures .0) (d .if2 .left)
+    (c .before .before .before .if3 .left) (c .before .before .if4 .left) (c .before .if5 .left) (c .if6 .left)
 
 pub kind-at-spec : {M : Type 1} → statement M
 kind-at-spec =
@@ -63,4 +84,8 @@ kind-at-spec =
     returns-3
     add-t12
     returns-4
-    returns-5)
+    add-t14
+    returns-5
+    add-t16
+    returns-6
+    returns-7)

@@ -1,8 +1,8 @@
--- `text::line::join_line` meets its contract: a kind, two nodes, and then the line's end. Assumes nothing.
+-- `text::line::join_line` meets its contract: a kind, two nodes, which a right outer join exchanges, and then the line's end. Assumes nothing.
 use mathlib.Core.Path.{ap, sym, _∙_}
 use borrow.Author.Needs.{needs}
 use Rattle.text.specs.inner.FieldAnswers.{kindAt, pairAt}
-use Rattle.text.proofs.laws.FormsLaws.{join-none, join-no-sides, join-more, join-end, end-here, end-more}
+use Rattle.text.proofs.laws.FormsLaws.{join-none, join-no-sides, join-more, join-exchanged, join-as-written, end-here, end-more}
 use Rattle.text.proofs.line.join_line.Statement.{statement}
 use Rattle.text.proofs.line.join_line.Tie as tie
 
@@ -39,8 +39,15 @@ returns-3 c =
 
 returns-4 : tie.Need-returns-4
 returns-4 c =
-    join-end _ (ap (kindAt _) (sym (c .before .before .before .before .before .before .k .given .1)) ∙ c .before .before .before .before .before .before .before .before .kind-at .ensures)
-    (ap (pairAt _) (sym (c .before .before .p .given .1)) ∙ c .before .before .before .before .pair-at .ensures) (λ j. end-here _ _ _ (c .if1 .left))
+    let d = c .before in
+    join-exchanged _ (ap (kindAt _) (sym (d .before .before .before .before .before .before .k .given .1)) ∙ d .before .before .before .before .before .before .before .before .kind-at .ensures)
+    (ap (pairAt _) (sym (d .before .before .p .given .1)) ∙ d .before .before .before .before .pair-at .ensures) (c .if2 .taken) (λ j. end-here _ _ _ (d .if1 .left))
+
+returns-5 : tie.Need-returns-5
+returns-5 c =
+    let d = c .before in
+    join-as-written _ (ap (kindAt _) (sym (d .before .before .before .before .before .before .k .given .1)) ∙ d .before .before .before .before .before .before .before .before .kind-at .ensures)
+    (ap (pairAt _) (sym (d .before .before .p .given .1)) ∙ d .before .before .before .before .pair-at .ensures) (c .if2 .left) (λ j. end-here _ _ _ (d .if1 .left))
 
 pub join-line-spec : {M : Type 1} → statement M
 join-line-spec =
@@ -55,4 +62,5 @@ join-line-spec =
     enum-told-2
     returns-2
     returns-3
-    returns-4)
+    returns-4
+    returns-5)
