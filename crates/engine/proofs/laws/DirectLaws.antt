@@ -34,7 +34,7 @@ use Rattle.engine.specs.inner.Gave.{answerFor, resultFor, Gave, elevenOf
 use Rattle.engine.proofs.laws.Kept.{tree-kept}
 use Rattle.engine.proofs.laws.Reached.{direct-answer, direct-numbers}
 use Rattle.engine.specs.declared.answer.Answer.{Answer}
-use Rattle.engine.specs.declared.answer.Answer.the-variants.{Refused, Rows}
+use Rattle.engine.specs.declared.answer.Answer.the-variants.{Refused}
 
 -- an outcome that is known
 pub gave : {o : Outcome (List Row)} {w w′ : List ℕ} {a : Answer} (k : Outcome (List Row)) → o ≡ k → a ≡ answerFor k → w′ ≡ resultFor k w
