@@ -257,7 +257,7 @@ class Query:
             letter, *fields = line.split("\t")
             if letter == "M":
                 kind, one, other, _, *numbers = fields
-                # An outer product is a full join whose condition is always true.
+                # An outer product is a full outer join whose condition is always true.
                 last = make("m%d" % pairs, "SELECT * FROM %s %s %s ON %s" % (
                     name(int(one)), {"I": "INNER JOIN", "L": "LEFT JOIN", "O": "FULL JOIN"}[kind],
                     name(int(other)), self.all_of(numbers) if kind != "O" else "1 = 1"))
