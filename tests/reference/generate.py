@@ -5,7 +5,8 @@
 
 The same seed and count give the same texts. About half of the texts are whole;
 the others are whole texts with one to three faults. Whole texts are answered
-or get 11 or 13; the faults bring in 2 to 7, 9 and 12.
+or get 11 or 13; the faults bring in 2 to 7, 9 and 12. A third of the outer joins
+are right outer joins, and a third of the last joins full outer joins.
 
 In most texts `=` lines share columns, so that chains of them link columns that no
 line compares; lines stand twice, also the other way round and below another join.
@@ -18,7 +19,7 @@ import sys
 OPERATORS = ["<", "=", "<=", ">", "<>", ">="]
 ODD_FIELDS = ["", "-", "-0", "0", "00", "01", "+1", "-1", "1", "2", "3", "5", "7", "8", "9",
               "9999", "10000", "0001", "2147483647", "2147483648", "-2147483647",
-              "-2147483648", "-2147483649", "99999999999", "1 ", "a", "I", "L", "O",
+              "-2147483648", "-2147483649", "99999999999", "1 ", "a", "I", "L", "R", "F", "O",
               "==", "=<", "=>", "!=", "<>", "<=", "=", "T", "D", "J", "C", "K", "P"]
 
 
@@ -85,9 +86,15 @@ def whole(rng, size=None):
     earlier = []                                # C lines of the joins below
     under = [{t} for t in range(n)]
     weak = [set() for _ in range(n)]            # tables right of an outer join below
-    for left, right in tree(rng, n, rng.random() < 0.3):
+    for i, (left, right) in enumerate(tree(rng, n, rng.random() < 0.3)):
         kind = "L" if rng.random() < outer_share else "I"
-        text.add("J", kind, left, right)
+        if i == n - 2 and rng.random() < 0.35:
+            kind = "L"                          # F has the sets of L
+            text.add("J", "F", left, right)
+        elif kind == "L" and rng.random() < 0.35:
+            text.add("J", "R", right, left)
+        else:
+            text.add("J", kind, left, right)
         lefts, rights = under[left], under[right]
         if simplified:
             rights = rights - weak[right]
@@ -137,7 +144,13 @@ def crowded(rng):
             text.add("D", *(value(rng, 1, 0.05) for _ in range(count)))
     kind = rng.choice(["I", "I", "L"])
     for i in range(1, n):
-        text.add("J", kind, n + i - 2 if i > 1 else 0, i)
+        left = n + i - 2 if i > 1 else 0
+        if i == n - 1 and rng.random() < 0.2:
+            text.add("J", "F", left, i)
+        elif kind == "L" and rng.random() < 0.3:
+            text.add("J", "R", i, left)
+        else:
+            text.add("J", kind, left, i)
         other = rng.randrange(i)
         for column in range(columns[i]):                    # all columns with one of another table
             text.add("C", other, 0, "=", i, column)
@@ -274,9 +287,17 @@ def side_changed(rng, text):
 
 
 def kind_changed(rng, text):
-    for i in text.starting("J"):
+    joins = text.starting("J")
+    for i in joins:
         if rng.random() < 0.6:
-            set_field(text, i, 1, rng.choice("IL"))
+            set_field(text, i, 1, rng.choice("ILRF" if i == joins[-1] else "ILR"))
+
+
+def full_outer_too_early(rng, text):
+    """A full outer join that is not the last join: a form fault, most often."""
+    i = some_line(rng, text, "J")
+    if i is not None:
+        set_field(text, i, 1, "F")
 
 
 def condition_changed(rng, text):
@@ -325,7 +346,7 @@ def order_wrong(rng, text):
 FAULTS = [odd_field, field_more_or_less, line_lost, line_twice, lines_exchanged, table_count,
           tables_more, cells_more_or_less, cells_more_or_less, key_column_wrong,
           key_column_wrong, side_changed, side_changed,
-          kind_changed, kind_changed, condition_changed, condition_changed, tables_renamed,
+          kind_changed, kind_changed, full_outer_too_early, condition_changed, condition_changed, tables_renamed,
           tables_renamed, join_with_k_only, join_with_k_only, conditions_more,
           order_wrong, order_wrong, order_wrong]
 
@@ -334,7 +355,7 @@ def byte_fault(rng, data):
     data = bytearray(data)
     what = rng.randrange(4)
     place = rng.randrange(len(data)) if data else 0
-    byte = rng.choice(list(b"0123456789-+\t\n\r |TDJCKPIL<=>") + [0, 128, 255])
+    byte = rng.choice(list(b"0123456789-+\t\n\r |TDJCKPILRF<=>") + [0, 128, 255])
     if what == 0 and data:
         data[place] = byte
     elif what == 1 and data:

@@ -2,6 +2,7 @@
 import argparse
 import collections
 import glob
+import math
 import os
 import random
 import re
@@ -18,7 +19,7 @@ import translate                                                        # noqa: 
 LIMIT = 256
 CONDITIONS = 64         # in all, of the lines and derived: question 13
 SECONDS = 50            # where no count is given, no new report is begun after these
-LETTERS = re.compile("S+U*M*B*Z?R*")            # the lines of an answer's print, by their letters
+LETTERS = re.compile("S+U*M*B*Z?F?R*")           # the lines of an answer's print, by their letters
 # Why an SQL system does not take a key column, by the words of SQLite and of PostgreSQL.
 REASONS = {
     "equal cells": re.compile("unique constraint", re.IGNORECASE),
@@ -32,12 +33,33 @@ def printed(rows, letter="R"):
                    for row in rows).encode("ascii")
 
 
-def product_of_tables(text):
-    """No result on the way has more rows than this."""
-    product = 1
-    for _, rows in translate.Query(text).tables:
-        product *= max(1, len(rows))
-    return product
+def most_rows(text):
+    """No result on the way has more rows than this: every row of each table with every row of the
+    others, or of a full outer join the rows of both sides, none of which has a partner."""
+    query = translate.Query(text)
+
+    def product(tables):
+        return math.prod(max(1, len(query.tables[t][1])) for t in tables)
+    most = product(range(len(query.tables)))
+    if query.full_outer:
+        _, left, right, _ = query.joins[-1]
+        most = max(most, product(query.under[left]) + product(query.under[right]))
+    return most
+
+
+def lone_right_rows(text, rows):
+    """How many of these R lines are of a right row without a partner: all tables of the left side
+    of a full outer join are blank. None where there is no such join."""
+    query = translate.Query(text)
+    if not query.full_outer:
+        return None
+    left = query.under[query.joins[-1][1]]
+    return sum(all(line.split(b"\t")[1 + t] == b"-" for t in left) for line in rows.splitlines())
+
+
+def added_line(count):
+    """The F line of so many added rows; none where the count is None."""
+    return b"" if count is None else b"F\t%d\n" % count
 
 
 def without_order(text):
@@ -49,9 +71,11 @@ def lines_of(out, letter):
     return b"".join(line for line in out.splitlines(True) if line.startswith(letter))
 
 
-# Whose key columns are counted, and from how many random reports on each kind must occur among them.
+# Whose key columns and kinds of joins are counted, and from how many random reports on each must
+# occur among them.
 FILES, CHANCE = "of files", "made by chance"
 ENOUGH = 100
+KEPT = {"R": "reports with a right outer join", "F": "reports with a full outer join"}
 
 
 def reason(message):
@@ -73,10 +97,11 @@ class Check:
     """Holds an implementation to an SQL system.
 
     run(program, text) gives a print; ask(text) gives the rows of the nested join
-    and of the joins one by one, both as printed() writes them, the most rows that a
+    and of the joins one by one, both as printed() writes them, how many rows each
     join has, and the counts of each condition, as U lines. refuses(text) gives which of
     REASONS keeps the tables from being made, or None. run_plan(text, lines), which
-    may be left out, gives the counts of the pairs and the rows of a printed plan.
+    may be left out, gives the counts of the pairs, how many rows a full outer join adds
+    or None, and the rows of a printed plan.
     """
 
     def __init__(self, ask, run, refuses, run_plan):
@@ -93,7 +118,7 @@ class Check:
         sys.stdout.flush()
 
     def sql(self, text):
-        nested, steps, most, tallies = self.ask(text)
+        nested, steps, counts, tallies = self.ask(text)
         if nested != steps:
             self.difference("the nested join and the joins one by one in SQL", text,
                             nested=nested, one_by_one=steps)
@@ -104,23 +129,30 @@ class Check:
             self.count["conditions counted by SQL"] += 1
             if int(line.split(b"\t")[4]):
                 self.count["conditions counted by SQL: unknown of some rows"] += 1
-        return nested, most, tallies
+        return nested, counts, tallies
 
-    def hold_direct(self, text, out, rows, most, who):
+    def hold_direct(self, text, out, rows, counts, who):
+        most = max(counts, default=0)
         expected = rows if most <= LIMIT else b"E\t11\n"
         self.count[who + ": " + ("rows" if most <= LIMIT else "E 11")] += 1
         if out != expected:
             self.difference(who, text, SQL=expected, printed=out)
 
-    def hold_report(self, text, out, rows, tallies, who):
+    def hold_report(self, text, out, rows, counts, tallies, who):
         number = turned_down(out)
-        if number is None:
+        query = translate.Query(text)
+        if any(counts[i] > LIMIT for i in query.joins_asked()):
+            self.count[who + ": E 11, wanted"] += 1
+            if number != 11:
+                self.difference(who, text, SQL=b"E\t11\n", printed=out)
+        elif number is None:
             self.count[who + ": rows"] += 1
             self.hold_sets(text, out, who)
             if b"\nZ\n" in out:
                 self.count[who + ": with blanking steps"] += 1
             if b"\nM\tO\t" in out:
                 self.count[who + ": with a product"] += 1
+            self.hold_added(text, out, rows, who)
             if lines_of(out, b"U") != tallies:
                 self.difference(who + ", the U lines", text, SQL=tallies, printed=out)
             letters = "".join(line[:1] for line in out.decode("ascii", "replace").splitlines())
@@ -130,7 +162,7 @@ class Check:
                 self.difference(who, text, SQL=rows, printed=out)
             elif self.run_plan:
                 self.hold_plan(text, out, rows, who)
-        elif number == 11 and product_of_tables(text) > LIMIT:
+        elif number == 11 and most_rows(text) > LIMIT:
             self.count[who + ": E 11"] += 1
         else:
             self.difference(who, text, SQL=rows, printed=out)
@@ -147,9 +179,19 @@ class Check:
         if lines_of(out, b"S") != sets:
             self.difference(who + ", the S lines", text, translation=sets, printed=out)
 
+    def hold_added(self, text, out, rows, who):
+        """The F line must have the count of the right rows without a partner."""
+        count = lone_right_rows(text, rows)
+        if count is not None:
+            self.count["%s: with a full outer join, %s" % (who, "rows added" if count else "no row added")] += 1
+        if "R" in translate.Query(text).kinds():
+            self.count[who + ": with a right outer join"] += 1
+        if lines_of(out, b"F") != added_line(count):
+            self.difference(who + ", the F line", text, SQL=added_line(count), printed=out)
+
     def hold_plan(self, text, out, rows, who):
         query = translate.Query(text)
-        pairs = query.pairs or [(left, right) for _, left, right, _ in query.joins]
+        pairs = query.pairs or query.tree_pairs()
         lines = out.decode("ascii").splitlines()
         steps = [line.split("\t") for line in lines if line.startswith("M\t")]
         try:
@@ -160,7 +202,7 @@ class Check:
             if not same:
                 self.difference(who + ", the pairs of the M lines", text, printed=out)
                 return
-            counts, plan_rows = self.run_plan(text, lines)
+            counts, added, plan_rows = self.run_plan(text, lines)
         except Exception as fault:                          # a plan that cannot be run
             self.difference(who + ", the plan: " + repr(fault), text, printed=out)
             return
@@ -168,6 +210,9 @@ class Check:
         if counts != [int(step[4]) for step in steps]:
             self.difference(who + ", the counts of the M lines", text,
                             SQL=repr(counts).encode("ascii"), printed=out)
+        if lines_of(out, b"F") != added_line(added):
+            self.difference(who + ", the F line and what the plan leaves", text,
+                            SQL=added_line(added), printed=out)
         if plan_rows != rows:
             self.difference(who + ", the rows of the plan", text, SQL=plan_rows, printed=out)
 
@@ -185,6 +230,15 @@ class Check:
     def has_key_columns(self, whose):
         """Whether there were key columns that SQL takes, and some for each reason not to."""
         return all(self.count["key columns %s in SQL: %s" % (whose, why)] for why in [*REASONS, "taken"])
+
+    def count_kinds(self, text, whose):
+        """Counts the texts with a right and with a full outer join."""
+        for kind in translate.Query(text).kinds() & set(KEPT):
+            self.count["%s %s" % (KEPT[kind], whose)] += 1
+
+    def has_kinds(self, whose):
+        """Whether there were right and full outer joins."""
+        return all(self.count["%s %s" % (name, whose)] for name in KEPT.values())
 
     def hold_refused(self, text, out, who, number=12):
         """A text that question 12 or 13 turns down."""
@@ -213,15 +267,16 @@ class Check:
             for program in ("report", "direct"):
                 self.hold_refused(text, self.run(program, text), program, 13)
             return
-        rows, most, tallies = self.sql(text)
+        self.count_kinds(text, CHANCE)
+        rows, counts, tallies = self.sql(text)
         if rows:
             self.count["random reports with rows"] += 1
-        self.hold_direct(text, self.run("direct", text), rows, most, "direct")
+        self.hold_direct(text, self.run("direct", text), rows, counts, "direct")
         given = [b""]
         if n > 1:
             given += [reports.order_lines(rng, n) for _ in range(orders)]
         for order in given:
-            self.hold_report(text + order, self.run("report", text + order), rows, tallies, "report")
+            self.hold_report(text + order, self.run("report", text + order), rows, counts, tallies, "report")
 
     def file(self, path, rng, orders):
         with open(path, "rb") as file:
@@ -249,12 +304,13 @@ class Check:
                 self.hold_refused(text, self.run(program, text), program, 13)
             return
         self.count["files"] += 1
-        rows, most, tallies = self.sql(text)
-        self.hold_direct(text, stored["direct"], rows, most, "stored direct")
-        self.hold_direct(text, self.run("direct", text), rows, most, "direct")
+        self.count_kinds(text, FILES)
+        rows, counts, tallies = self.sql(text)
+        self.hold_direct(text, stored["direct"], rows, counts, "stored direct")
+        self.hold_direct(text, self.run("direct", text), rows, counts, "direct")
         if turned_down(stored["report"]) != 9:
-            self.hold_report(text, stored["report"], rows, tallies, "stored report")
-            self.hold_report(text, self.run("report", text), rows, tallies, "report")
+            self.hold_report(text, stored["report"], rows, counts, tallies, "stored report")
+            self.hold_report(text, self.run("report", text), rows, counts, tallies, "report")
         query = without_order(text)
         given = [b""]
         n = len(translate.Query(text).tables)
@@ -262,7 +318,8 @@ class Check:
             given += [reports.order_lines(rng, n) for _ in range(orders)]
         for order in given:
             if len(query + order) <= 16384:
-                self.hold_report(query + order, self.run("report", query + order), rows, tallies, "report")
+                self.hold_report(query + order, self.run("report", query + order), rows, counts, tallies,
+                                 "report")
 
 
 def main(name, about, system, ask, count, refuses, run_plan=None):
@@ -312,6 +369,10 @@ def main(name, about, system, ask, count, refuses, run_plan=None):
               and check.count["report: with a derived condition"]
               and check.count["report: with a derived condition at a pair"]
               and check.count["conditions counted by SQL: unknown of some rows"]
-              and check.has_key_columns(FILES)
-              and (check.count["random reports"] < ENOUGH or check.has_key_columns(CHANCE)))
+              and check.count["report: with a full outer join, rows added"]
+              and check.count["report: with a full outer join, no row added"]
+              and check.count["report: with a right outer join"]
+              and check.has_key_columns(FILES) and check.has_kinds(FILES)
+              and (check.count["random reports"] < ENOUGH
+                   or check.has_key_columns(CHANCE) and check.has_kinds(CHANCE)))
     return 0 if enough and not check.count["differences"] else 1

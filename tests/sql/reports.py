@@ -5,8 +5,9 @@ in the cells, all operators, C lines between the sides, C lines with both tables
 one side, K lines, lines that stand twice, in one join or in two, and lines that stand
 there once more read from the other side. In most reports many conditions are about the
 tables' first columns, so that chains of `=` lines link three columns and more; question
-13 turns few of them down. Conditions name any table under their join; one report of
-five is made so that its tree is simplified. Of some reports there is another text,
+13 turns few of them down. A third of the outer joins are right outer joins, and a third
+of the last joins full outer joins. Conditions name any table under their join; one report
+of five is made so that its tree is simplified. Of some reports there is another text,
 with a key column that question 12 turns down. The same seed gives the same texts.
 """
 import itertools
@@ -120,6 +121,12 @@ def report(rng):
 
     for i, (left, right) in enumerate(order(rng, n)):
         kind = "L" if rng.random() < outer else "I"
+        join_line = ["J", kind, left, right]
+        if i == n - 2 and rng.random() < 0.35:
+            kind = "L"                              # a full outer join blanks what L blanks
+            join_line = ["J", "F", left, right]
+        elif kind == "L" and rng.random() < 0.35:
+            join_line = ["J", "R", right, left]
         lefts, rights = under[left], under[right]
         # the tables right of an outer join in a side that this join blanks
         weak = right_of_outer[right] | (right_of_outer[left] if kind == "I" else set())
@@ -146,7 +153,7 @@ def report(rng):
         simplified = simplified and not named & weak
         links += [line for line in own if line[0] == "C"]
         rng.shuffle(own)
-        lines.append(["J", kind, left, right])
+        lines.append(join_line)
         lines += own
         under.append(under[left] | under[right])
         right_of_outer.append(right_of_outer[left] | right_of_outer[right]

@@ -13,23 +13,33 @@ Table 1 becomes the SQL table t1. Its column t1_row holds the row numbers, its
 columns t1_c0, t1_c1, .. the cells, blank as NULL. No two columns of a report
 have the same name, so a condition can name its columns without a table, in
 nested joins too. The J lines become one nested join expression: each join is
-INNER JOIN or LEFT JOIN, in parentheses, ON all its conditions joined by AND.
+INNER JOIN, LEFT JOIN, RIGHT JOIN or FULL OUTER JOIN, with its sides as the line has
+them, in parentheses, ON all its conditions joined by AND.
 SQL's own rules do the rest: a comparison with NULL is unknown, and only rows
 whose condition is true belong together. By the same rules a condition is true,
 false or unknown of each row of its two tables' product, which make_tallies counts.
 
+PostgreSQL takes a FULL OUTER JOIN only if each of its conditions is an `=` between the
+two sides; SQLite takes all. For PostgreSQL any other one is written as a LEFT JOIN and,
+by UNION ALL, the right rows for which no left row EXISTS.
+
 SQL joins by the lines alone. The sets of a print, its plan and its U lines have derived
-conditions too, document 02's item 6, which are worked out here.
+conditions too, document 02's item 6, which are worked out here. Sets and plan have a
+right outer join as L with its sides exchanged and a full outer join as L, item 7.
 """
 import functools
 import sys
 
 
+KINDS = {"I": "INNER JOIN", "L": "LEFT JOIN", "R": "RIGHT JOIN", "F": "FULL OUTER JOIN"}
+
+
 class Query:
-    def __init__(self, text):
+    def __init__(self, text, for_postgres=False):
+        self.for_postgres = for_postgres
         self.tables = []            # (count of columns, rows as lists of fields)
         self.key_columns = []       # for each table the number of its key column, or None
-        self.joins = []             # (kind, left, right, conditions as SQL)
+        self.joins = []             # (kind, left, right, conditions as SQL), as the J line has them
         self.conditions = []        # the C and K lines as SQL, by their numbers
         self.named = []             # the tables that each of them names
         self.links = []             # of each that is an `=` C line its two columns, else None
@@ -66,17 +76,51 @@ class Query:
         self.named.append(tables)
         self.links.append(None)
 
+    # Kinds and sides of joins.
+
+    @property
+    def full_outer(self):
+        """Whether the last join is a full outer join."""
+        return bool(self.joins) and self.joins[-1][0] == "F"
+
+    def kinds(self):
+        return {kind for kind, _, _, _ in self.joins}
+
+    def tree_pairs(self):
+        """The pairs of the J lines, which are the order without P lines: that of a right outer
+        join is exchanged."""
+        return [(right, left) if kind == "R" else (left, right) for kind, left, right, _ in self.joins]
+
+    @functools.cached_property
+    def under(self):
+        """For each node of the tree the tables under it."""
+        under = [{t} for t in range(len(self.tables))]
+        for _, left, right, _ in self.joins:
+            under.append(under[left] | under[right])
+        return under
+
+    def joins_in(self, node):
+        """The joins in a node of the tree, by their numbers from 0."""
+        if node < len(self.tables):
+            return []
+        i = node - len(self.tables)
+        return [*self.joins_in(self.joins[i][1]), *self.joins_in(self.joins[i][2]), i]
+
+    def joins_asked(self):
+        """The joins of the tree whose rows question 11 counts in every report, whatever its order:
+        the last one, whose rows are those of the report, and the right side's of a full outer join."""
+        last = [len(self.joins) - 1] if self.joins else []
+        return self.joins_in(self.joins[-1][2]) + last if self.full_outer else last
+
     # Sets and derived conditions.
 
     def set_rule(self):
         """Each table's set of condition numbers, without what follows from it."""
-        under = [{t} for t in range(len(self.tables))]
         sets = [set() for _ in self.tables]
-        for (kind, left, right, _), own in zip(self.joins, self.of_joins):
+        for (kind, _, _, _), (left, right), own in zip(self.joins, self.tree_pairs(), self.of_joins):
             gain = set(own).union(*(sets[t] for number in own for t in self.named[number]))
-            for t in under[right] | (under[left] if kind == "I" else set()):
+            for t in self.under[right] | (self.under[left] if kind == "I" else set()):
                 sets[t] |= gain
-            under.append(under[left] | under[right])
         return sets
 
     def linked(self, numbers):
@@ -145,9 +189,23 @@ class Query:
 
     def joined(self, i, left, right):
         """The i-th join, of two sides that are written as SQL."""
-        kind, _, _, conditions = self.joins[i]
-        return "%s %s %s ON %s" % (
-            left, {"I": "INNER JOIN", "L": "LEFT JOIN"}[kind], right, " AND ".join(conditions))
+        kind, left_node, right_node, conditions = self.joins[i]
+        condition = " AND ".join(conditions)
+        if kind != "F" or not self.for_postgres or self.postgres_takes(i):
+            return "%s %s %s ON %s" % (left, KINDS[kind], right, condition)
+        left_columns, right_columns = ([name for t in sorted(self.under[node]) for name in self.columns(t)]
+                                       for node in (left_node, right_node))
+        return ("(SELECT %s FROM %s LEFT JOIN %s ON %s UNION ALL "
+                "SELECT %s FROM %s WHERE NOT EXISTS (SELECT 1 FROM %s WHERE %s)) AS both_kept" % (
+                    ", ".join(left_columns + right_columns), left, right, condition,
+                    ", ".join(["CAST(NULL AS INTEGER)"] * len(left_columns) + right_columns), right, left, condition))
+
+    def postgres_takes(self, i):
+        """Whether PostgreSQL takes the i-th join as a FULL OUTER JOIN: it wants conditions that a
+        merge or a hash join can use, and that is here an `=` between the two sides."""
+        _, left, right, _ = self.joins[i]
+        return all(self.links[number] and self.under[left] & set(self.named[number])
+                   and self.under[right] & set(self.named[number]) for number in self.of_joins[i])
 
     def nested(self, node=None):
         """A node (without one: the whole tree) as one join expression."""
@@ -186,7 +244,8 @@ class Query:
 
     def make_plan(self, lines):
         """Statements that run the plan: one table m0, m1, .. for each M line, b0, b1, .. for
-        each B line, z for Z. Also the name of the last of these tables."""
+        each B line, z for Z. Of a full outer join also the tables added, the rows of the right
+        side that are in no row of the plan, and kept, all rows. Also the name of the last table."""
         n = len(self.tables)
         name = lambda node: "t%d" % node if node < n else "m%d" % (node - n)
         statements, pairs, steps, last = [], 0, 0, "t0"
@@ -198,7 +257,7 @@ class Query:
             letter, *fields = line.split("\t")
             if letter == "M":
                 kind, one, other, _, *numbers = fields
-                # An outer product is a full join whose condition is always true.
+                # An outer product is a full outer join whose condition is always true.
                 last = make("m%d" % pairs, "SELECT * FROM %s %s %s ON %s" % (
                     name(int(one)), {"I": "INNER JOIN", "L": "LEFT JOIN", "O": "FULL JOIN"}[kind],
                     name(int(other)), self.all_of(numbers) if kind != "O" else "1 = 1"))
@@ -214,7 +273,22 @@ class Query:
                 steps += 1
             elif letter == "Z":
                 last = make("z", self.best_match(last))
+        if self.full_outer:
+            make("added", self.added(last))
+            last = make("kept", "SELECT %s FROM %s UNION ALL SELECT * FROM added" % (
+                ", ".join("t%d_row" % t for t in range(n)), last))
         return statements, last
+
+    def added(self, source):
+        """The rows of the right side of the last join, read directly, that are in no row of a table:
+        one that has the same row numbers, or is blank alike, in all tables of the right side."""
+        right = self.joins[-1][2]
+        rows = [("right_side.t%d_row" if t in self.under[right] else "CAST(NULL AS INTEGER) AS t%d_row") % t
+                for t in range(len(self.tables))]
+        same = " AND ".join("of_plan.t%d_row IS NOT DISTINCT FROM right_side.t%d_row" % (t, t)
+                            for t in sorted(self.under[right]))
+        return ("SELECT %s FROM (SELECT * FROM %s) AS right_side WHERE NOT EXISTS "
+                "(SELECT 1 FROM %s AS of_plan WHERE %s)" % (", ".join(rows), self.nested(right), source, same))
 
     def make_tallies(self):
         """For each condition, a derived one too, the statement that gives its number and how often
