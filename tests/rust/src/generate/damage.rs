@@ -3,7 +3,7 @@
 use super::Random;
 
 /// Fields that are read where they should not be, or refused where they should be read.
-const FIELDS: [&str; 51] = [
+const FIELDS: [&str; 56] = [
     "",
     "-",
     "--",
@@ -50,14 +50,19 @@ const FIELDS: [&str; 51] = [
     "><",
     "I",
     "L",
+    "R",
+    "F",
     "i",
+    "r",
+    "f",
+    "FF",
     "O",
     " 1",
     "1 ",
     "1\r",
 ];
 
-const BYTES: &[u8] = b"\t\n\r -+0123456789<=>TDJCKPILSMBZRE.\0\xff";
+const BYTES: &[u8] = b"\t\n\r -+0123456789<=>TDJCKPILFSMBZREf.\0\xff";
 
 /// Each line dropped, repeated and moved to each place; each field removed, repeated, and replaced and preceded by
 /// each of FIELDS; each byte removed, each of its bits flipped, and replaced and preceded by each of BYTES.
