@@ -186,7 +186,7 @@ impl Kept {
         let total = tree.total();
         match planned {
             Ok(planned) => {
-                assert!(tree.right_side().is_some(), "{}", shown(text));
+                assert!(tree.sides()[1].is_some(), "{}", shown(text));
                 assert!(tree.alone().is_none() || planned.added == tree.alone(), "{}", shown(text));
                 let added = planned.added.unwrap_or(0);
                 *if added > 0 { &mut self.added } else { &mut self.none_added } += 1;
@@ -199,7 +199,7 @@ impl Kept {
             Err(11) => {
                 let mut other = Lent::marked(LEAST);
                 let as_left_outer = other.report(&as_left_outer(text));
-                match (as_left_outer, tree.right_side()) {
+                match (as_left_outer, tree.sides()[1]) {
                     (Err(question), _) => assert_eq!(question, 11, "{}", shown(text)),
                     (Ok(_), None) => self.by_right_side += 1,
                     (Ok(_), Some(_)) => {
