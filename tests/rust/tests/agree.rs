@@ -1,7 +1,7 @@
 //! Generated texts: the plan and the direct reading hand over the same rows (demand 3), every refusal occurs, the lent
 //! memory ends as document 01 says, the counts of each condition are those of all pairs looked at one by one, question
-//! 12 says what all pairs of a key column's cells say, sets, derived conditions and question 13 are as worked out apart,
-//! and the rows are those of the join tree read row by row.
+//! 12 says what all pairs of a key column's cells say, sets, derived conditions and question 13 are as worked out
+//! apart, and the rows are those of the join tree read row by row.
 
 use hashjoin::chains::chains;
 use hashjoin::generate::{each_fixed_text, each_random_text};

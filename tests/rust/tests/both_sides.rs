@@ -59,8 +59,8 @@ fn sides_without_rows_and_none_added() {
     }
 }
 
-/// A right row is in a row of the plan by its row number, whatever its cells are; a K line of either side takes partners
-/// away.
+/// A right row is in a row of the plan by its row number, whatever its cells are; a K line of either side takes
+/// partners away.
 #[test]
 fn partners_taken_away() {
     prints(

@@ -1,6 +1,6 @@
 //! Puts every joining order of reports of eight tables to the proved library. Each order that is not refused by
-//! question 11 must give the rows of the direct reading, which are those of this crate's engine too. Where the last join
-//! is a full outer join, each must add as many rows as the direct reading has more than that of a left outer join.
+//! question 11 must give the rows of the direct reading, which are those of this crate's engine too. Where the last
+//! join is a full outer join, each must add as many rows as the direct reading has more than that of a left outer join.
 //!
 //!     trees
 //!

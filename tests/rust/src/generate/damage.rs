@@ -64,9 +64,9 @@ const FIELDS: [&str; 56] = [
 
 const BYTES: &[u8] = b"\t\n\r -+0123456789<=>TDJCKPILFSMBZREf.\0\xff";
 
-/// Each line dropped, repeated and moved to each place; and of the lines that are chosen each field removed, repeated, and
-/// replaced and preceded by each of FIELDS, and each byte removed, each of its bits flipped, and replaced and preceded by
-/// each of BYTES.
+/// Each line dropped, repeated and moved to each place; and of the lines that are chosen each field removed, repeated,
+/// and replaced and preceded by each of FIELDS, and each byte removed, each of its bits flipped, and replaced and
+/// preceded by each of BYTES.
 pub fn everywhere(text: &[u8], chosen: impl Fn(&[u8]) -> bool, take: &mut dyn FnMut(&[u8])) {
     let lines = split(text, b'\n');
     let count = lines.len() - 1;

@@ -63,8 +63,8 @@ fn reports() -> Vec<Report> {
     reports
 }
 
-/// Full outer joins of two tables, with about as many rows as there may be: by pairs, by rows of the left side alone, and
-/// by rows of the right side alone, which are added. A right outer join and a left outer join of the same.
+/// Full outer joins of two tables, with about as many rows as there may be: by pairs, by rows of the left side alone,
+/// and by rows of the right side alone, which are added. A right outer join and a left outer join of the same.
 fn rows_added() -> Vec<Report> {
     let mut reports = vec![];
     for [both, left, right] in [
@@ -135,8 +135,8 @@ fn of_kind(mut report: Report, kind: &'static str) -> Report {
     report
 }
 
-/// Three tables, each with rows that have a partner and rows that have none: every kind of both joins, both sequences of
-/// the last one's sides, a K line of either side or none, every order.
+/// Three tables, each with rows that have a partner and rows that have none: every kind of both joins, both sequences
+/// of the last one's sides, a K line of either side or none, every order.
 fn kinds_of_joins() -> Vec<Report> {
     let tables = [[1, 2, BLANK, 3], [2, 1, 4, BLANK], [1, 3, 4, 9]].map(|cells| column(cells.to_vec()));
     let mut reports = vec![];

@@ -134,9 +134,9 @@ impl Report {
         report
     }
 
-    /// A full outer join whose right side is a join with about as many rows as there may be. Few of them have a partner,
-    /// so that a plan that joins the left side first meets no limit before they are added. Now and then it is an outer
-    /// join of another kind.
+    /// A full outer join whose right side is a join with about as many rows as there may be. Few of them have a
+    /// partner, so that a plan that joins the left side first meets no limit before they are added. Now and then it is
+    /// an outer join of another kind.
     fn of_a_wide_right_side(random: &mut Random) -> Report {
         let mut report = Report::default();
         let [left_rows, middle_rows, right_rows] =

@@ -12,9 +12,9 @@ const QUESTIONS: usize = 13;
 /// How often each operator must come out in each way, and how often question 11 must turn a report down for what a full
 /// outer join adds; a damaged line has another operator now and then.
 const FEWEST: u64 = 16;
-/// Each kind of key column, of derived conditions and of outer joins must occur in answers once for so many answers, and each kind of
-/// key column in refusals by question 12 once for so many of these; and there must be a refusal by 12, and one by 13,
-/// for so many answers. Faults and damage make some of each kind.
+/// Each kind of key column, of derived conditions and of outer joins must occur in answers once for so many answers,
+/// and each kind of key column in refusals by question 12 once for so many of these; and there must be a refusal by 12,
+/// and one by 13, for so many answers. Faults and damage make some of each kind.
 const ANSWERS_FOR_A_KIND: u64 = 50;
 const REFUSALS_FOR_A_KIND: u64 = 6;
 const ANSWERS_FOR_A_REFUSAL: u64 = 100;
@@ -303,14 +303,14 @@ pub struct BothSides {
     most_steps: u64,
     /// Reports that question 11 turned down for one row more than there may be, with those that are added.
     one_more: u64,
-    /// Answers of the report to texts made by chance; those with a right outer join, with and without P lines; and those
-    /// of a full outer join.
+    /// Answers of the report to texts made by chance; those with a right outer join, with and without P lines; and
+    /// those of a full outer join.
     answers: u64,
     right_outer: [u64; 2],
     full_outer: u64,
-    /// Of full outer joins: with no row added, with rows added; with and without P lines; behind best match and behind a
-    /// pair; with a left side without rows, and with a right side without; with a right side that is a join; and those in
-    /// which an added row does not stand behind all others.
+    /// Of full outer joins: with no row added, with rows added; with and without P lines; behind best match and behind
+    /// a pair; with a left side without rows, and with a right side without; with a right side that is a join; and
+    /// those in which an added row does not stand behind all others.
     kinds: [u64; 10],
     /// Reports made by chance that question 11 turned down and would not with kind L: by the right side's joins, by the
     /// total; and direct readings.
@@ -381,11 +381,12 @@ impl BothSides {
             self.answers
         );
         println!(
-            "full outer joins made by chance: in {} of {} answers; no row added {none}, some {some}; with P lines {pairs}, \
-             without {no_pairs}; behind best match {best_match}, behind a pair {no_best_match}; without left rows \
-             {left_empty}, without right rows {right_empty}; the right side a join {join}; an added row before others \
-             {moved}; refused by 11, and not with kind L: for the right side {right_side}, for the total {total}, direct \
-             readings {direct}; in all answers of {ROWS} rows {}, of {STEPS} steps {}, refusals of a row more {}",
+            "full outer joins made by chance: in {} of {} answers; no row added {none}, some {some}; with P lines \
+             {pairs}, without {no_pairs}; behind best match {best_match}, behind a pair {no_best_match}; without left \
+             rows {left_empty}, without right rows {right_empty}; the right side a join {join}; an added row before \
+             others {moved}; refused by 11, and not with kind L: for the right side {right_side}, for the total \
+             {total}, direct readings {direct}; in all answers of {ROWS} rows {}, of {STEPS} steps {}, refusals of a row \
+             more {}",
             self.full_outer, self.answers, self.most_rows, self.most_steps, self.one_more
         );
     }
