@@ -18,6 +18,8 @@ const FEWEST: u64 = 16;
 const ANSWERS_FOR_A_KIND: u64 = 50;
 const REFUSALS_FOR_A_KIND: u64 = 6;
 const ANSWERS_FOR_A_REFUSAL: u64 = 100;
+/// Each kind of full outer joins must occur in answers once for so many full outer joins.
+const FULL_OUTER_FOR_A_KIND: u64 = 8;
 /// Numbers that no question has.
 pub const NOT_USED: [usize; 2] = [8, 10];
 
@@ -395,7 +397,7 @@ impl BothSides {
         [self.most_rows, self.most_steps, self.one_more].contains(&0)
             || rare(&self.right_outer, self.answers, ANSWERS_FOR_A_KIND)
             || rare(&[self.full_outer], self.answers, ANSWERS_FOR_A_KIND)
-            || rare(&self.kinds, self.full_outer, ANSWERS_FOR_A_KIND)
+            || rare(&self.kinds, self.full_outer, FULL_OUTER_FOR_A_KIND)
             || self.refused.iter().any(|&count| count < FEWEST)
     }
 }
