@@ -1,4 +1,4 @@
-/* Rumbethola: an engine that joins the tables of a report by inner and left outer joins in any joining order.
+/* Rumbethola: an engine that joins the tables of a report by inner and outer joins in any joining order.
 
    The routines of target/staticlib/libcapi.a, which `rt staticlib capi` builds, on x86-64 Linux. The product's
    specification is docs/SPECIFICATION.md, from the document "Joining strain reports in any order", document 01, and
@@ -43,7 +43,7 @@ extern "C" {
 
 /* The least counts of the buffer that is handed over in: numbers of `answer` for rumbethola_report and
    rumbethola_direct, bytes of `out` for the prints; and what a call with less returns. They are this library's own. */
-#define RUMBETHOLA_ANSWER 285
+#define RUMBETHOLA_ANSWER 287
 #define RUMBETHOLA_DIRECT_ANSWER 2
 #define RUMBETHOLA_OUT 32768
 #define RUMBETHOLA_NO_ROOM 255
@@ -96,6 +96,9 @@ extern "C" {
                                           ones */
 #define RUMBETHOLA_AT_TALLIES 93       /* sixty-four conditions of three numbers, by rising number; those behind the
                                           conditions are 0 */
+#define RUMBETHOLA_AT_FULL_OUTER 285   /* 1 where the last J line is a full outer join, kind F; otherwise 0 */
+#define RUMBETHOLA_AT_ADDED 286        /* count of rows that a full outer join adds behind the plan: those of its right
+                                          side that are in no row of the plan; otherwise 0. The adding is no step */
 #define RUMBETHOLA_TABLES 8
 #define RUMBETHOLA_STEPS 16
 #define RUMBETHOLA_CONDITIONS 64

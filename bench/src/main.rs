@@ -46,7 +46,7 @@ impl Memory {
             cells: vec![0; 4096],
             work: vec![0; 16384],
             result: vec![0; 2048],
-            answer: vec![0; 285],
+            answer: vec![0; 287],
             steps: vec![hashjoin::Step::default(); 16],
         }
     }

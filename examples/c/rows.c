@@ -1,5 +1,5 @@
-/* Prints the counts of a report's conditions and its rows through the numbers of rumbethola_report, or, with --print,
-   its whole print:
+/* Prints the counts of a report's conditions, the count of rows that a full outer join adds, and its rows through the
+   numbers of rumbethola_report, or, with --print, its whole print:
 
        rows [--print] FILE
 
@@ -8,9 +8,9 @@
        rt staticlib capi
        gcc -O2 -Iinclude examples/c/rows.c target/staticlib/libcapi.a -o rows
 
-   Both are written as in the print: U and, behind a tab each, a condition and how often it is true, false and unknown,
-   first for the C and K lines and then for the derived conditions; R and, for each table, a row number or - behind a
-   tab.
+   All are written as in the print: U and, behind a tab each, a condition and how often it is true, false and unknown,
+   first for the C and K lines and then for the derived conditions; where the last J line is a full outer join, F and,
+   behind a tab, how many rows it adds; R and, for each table, a row number or - behind a tab.
 
    Exit status 0: an answer was printed. 1: the text was refused, and E with the number was printed. 2: the arguments
    are wrong, the file could not be read, or the print could not be written; one line on standard error says which. */
@@ -51,6 +51,8 @@ static int print_rows(size_t text_count)
         return REFUSED;
     }
     print_tallies();
+    if (answer[RUMBETHOLA_AT_FULL_OUTER] == 1)
+        printf("F\t%" PRIu64 "\n", answer[RUMBETHOLA_AT_ADDED]);
     size_t tables = answer[RUMBETHOLA_AT_TABLES];
     for (size_t row = 0; row < answer[RUMBETHOLA_AT_ROWS]; row++) {
         printf("R");

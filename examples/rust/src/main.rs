@@ -1,4 +1,5 @@
-//! Prints the counts of a report's conditions and its rows through the wrapper, or, with --print, its whole print:
+//! Prints the counts of a report's conditions, the count of rows that a full outer join adds, and its rows through the
+//! wrapper, or, with --print, its whole print:
 //!
 //!     rows [--print] FILE
 //!
@@ -7,9 +8,9 @@
 //!     rt staticlib capi
 //!     cargo run --release --manifest-path examples/rust/Cargo.toml -- samples/week.in
 //!
-//! Both are written as in the print: U and, behind a tab each, a condition and how often it is true, false and unknown,
-//! first for the C and K lines and then for the derived conditions; R and, for each table, a row number or - behind a
-//! tab.
+//! All are written as in the print: U and, behind a tab each, a condition and how often it is true, false and unknown,
+//! first for the C and K lines and then for the derived conditions; where the last J line is a full outer join, F and,
+//! behind a tab, how many rows it adds; R and, for each table, a row number or - behind a tab.
 //!
 //! Exit status 0: an answer was printed. 1: the text was refused, and E with the number was printed. 2: the arguments
 //! are wrong, the file could not be read, or the print could not be written; one line on standard error says which.
@@ -56,13 +57,16 @@ fn read(path: &OsStr) -> Result<Vec<u8>> {
     Ok(text)
 }
 
-/// Adds the U and R lines or the E line to a print, and tells whether the text was refused.
+/// Adds the U, F and R lines or the E line to a print, and tells whether the text was refused.
 fn add_rows(engine: &mut Engine, text: &[u8], print: &mut Vec<u8>) -> bool {
     match engine.report(text) {
         Ok(report) => {
             for (condition, tally) in report.tallies().iter().enumerate() {
                 let counts = format!("{}\t{}\t{}", tally.holds, tally.fails, tally.unknown);
                 print.extend(format!("U\t{condition}\t{counts}\n").bytes());
+            }
+            if let Some(added) = report.added() {
+                print.extend(format!("F\t{added}\n").bytes());
             }
             for row in report.rows() {
                 print.push(b'R');

@@ -79,9 +79,13 @@ pub fn chains(text: &[u8]) -> Chains {
         match fields[0] {
             "T" => under.push(Set::from([under.len()])),
             "J" => {
-                let sides = [number(2), number(3)].map(|side| under[side].clone());
+                let mut sides = [number(2), number(3)].map(|side| under[side].clone());
                 under.push(&sides[0] | &sides[1]);
-                joins.push((fields[1] == "L", sides, Set::new()));
+                // The preserved side first; a full outer join has the sets of a left outer join.
+                if fields[1] == "R" {
+                    sides.reverse();
+                }
+                joins.push((fields[1] != "I", sides, Set::new()));
             }
             letter @ ("C" | "K") => {
                 let first = (number(1), number(2));

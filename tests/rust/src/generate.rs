@@ -9,17 +9,22 @@ mod reports;
 pub use reports::OPERATORS;
 use reports::Report;
 
-/// A report with every form of line, damaged in every place.
+/// Two reports, the first with every form of line, damaged in every place. The second has a right outer join and a full
+/// outer join, and is damaged by lines, and in every place of its J lines.
 const SMALL: &str = "T\t2\t0\nD\t10\t-1\nD\t11\t-\nT\t2\nD\t10\t7\nD\t11\t8\nT\t1\nD\t7\n\
     J\tI\t1\t2\nC\t1\t1\t=\t2\t0\nK\t1\t0\t>=\t-5\nJ\tL\t0\t3\nC\t0\t0\t<=\t1\t0\n\
     P\t0\t1\nP\t3\t2\n";
+const SMALL_FULL_OUTER: &str = "T\t1\nT\t1\nD\t2\nT\t1\nD\t3\nJ\tR\t0\t1\nC\t0\t0\t=\t1\t0\n\
+    J\tF\t3\t2\nC\t1\t0\t=\t2\t0\nP\t0\t1\nP\t3\t2\n";
 
-/// Calls `take` with each text of a fixed list, which does not depend on the seed: reports at the limits, and a
-/// small report with damage in every place.
+/// Calls `take` with each text of a fixed list, which does not depend on the seed: reports at the limits, and two
+/// small reports with damage.
 pub fn each_fixed_text(take: &mut dyn FnMut(&[u8])) {
     limits::each(take);
     take(SMALL.as_bytes());
-    damage::everywhere(SMALL.as_bytes(), take);
+    damage::everywhere(SMALL.as_bytes(), |_| true, take);
+    take(SMALL_FULL_OUTER.as_bytes());
+    damage::everywhere(SMALL_FULL_OUTER.as_bytes(), |line| line.starts_with(b"J"), take);
 }
 
 /// Calls `take` with `count` texts made by chance.

@@ -7,6 +7,7 @@
 pub mod chains;
 mod execute;
 pub mod generate;
+pub mod join_tree;
 pub mod key_columns;
 pub mod lent;
 mod links;
@@ -71,6 +72,9 @@ pub struct Rows {
     /// direct reading.
     pub conditions: usize,
     pub tallies: [Tally; CONDITIONS],
+    /// Where the last join is a full outer join, how many rows of its right side were added behind the plan; none for
+    /// the direct reading.
+    pub added: Option<usize>,
 }
 
 /// The rows, or the number of the question that turned the text down.
@@ -123,6 +127,9 @@ fn run_plan(text: &[u8], cells: &mut [i32], work: &mut [u16], result: &mut [u16]
 
     let mut executor = Executor::new(&query, &order, cells, work);
     let mut node = query.tables.len();
+    if node == 1 {
+        executor.read(&tree, 0)?;
+    }
     for step in &mut steps[..length] {
         match step.kind {
             BLANKING => executor.blank(step.first, step.conditions),
@@ -133,22 +140,20 @@ fn run_plan(text: &[u8], cells: &mut [i32], work: &mut [u16], result: &mut [u16]
             }
         }
     }
+    let added = if query.full_outer { Some(executor.add_right(&tree)?) } else { None };
     let rows = executor.finish(result);
     let (tables, conditions) = (query.tables.len(), query.conditions.len());
-    Ok(Rows { rows, tables, sets, conditions, tallies: tallies(&query, cells) })
+    Ok(Rows { rows, tables, sets, conditions, tallies: tallies(&query, cells), added })
 }
 
 fn run_tree(text: &[u8], cells: &mut [i32], work: &mut [u16], result: &mut [u16]) -> Answer {
     let (query, tree, _) = accept(text, cells)?;
+    let tables = query.tables.len();
     let mut executor = Executor::new(&query, &tree, cells, work);
-    for (node, join) in (query.tables.len()..).zip(query.joins.as_slice()) {
-        let (first, second) = join.sides;
-        let kind = if join.outer { OUTER } else { INNER };
-        executor.join(node, &Step { kind, first, second, rows: 0, conditions: join.conditions })?;
-    }
+    executor.read(&tree, 2 * tables - 2)?;
     let rows = executor.finish(result);
     let tallies = [Tally::default(); CONDITIONS];
-    Ok(Rows { rows, tables: query.tables.len(), sets: [0; TABLES], conditions: 0, tallies })
+    Ok(Rows { rows, tables, sets: [0; TABLES], conditions: 0, tallies, added: None })
 }
 
 /// The positions of the bits that are set, rising.

@@ -40,6 +40,11 @@ pub fn write_report(answer: &Answer, steps: &[Step], result: &[u16], print: &mut
             print.push(b'\n');
         }
         steps.iter().take_while(|step| step.kind != 0).for_each(|step| write_step(step, print));
+        if let Some(added) = rows.added {
+            print.push(b'F');
+            field(added, print);
+            print.push(b'\n');
+        }
     }
     write_direct(answer, result, print);
 }

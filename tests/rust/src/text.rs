@@ -87,9 +87,20 @@ impl Default for Condition {
     }
 }
 
+/// A J line's kind: I, L, R or F.
+enum JoinKind {
+    Inner,
+    LeftOuter,
+    RightOuter,
+    FullOuter,
+}
+
+/// A J line as sets and plan see it: one of kind R is one of kind L with its sides exchanged, one of kind F is one of
+/// kind L.
 #[derive(Clone, Copy, Default)]
 pub struct Join {
     pub outer: bool,
+    /// Of an outer join the preserved side first.
     pub sides: (u16, u16),
     /// Bit i for condition number i.
     pub conditions: u64,
@@ -98,6 +109,8 @@ pub struct Join {
 pub struct Query {
     pub tables: Bounded<Table, TABLES>,
     pub joins: Bounded<Join, { TABLES - 1 }>,
+    /// Whether the last join is a full outer join, kind F.
+    pub full_outer: bool,
     /// Those that the text writes, and behind them the derived ones.
     pub conditions: Bounded<Condition, CONDITIONS>,
     /// The equalities of columns that no lower-numbered condition states, bit i for condition number i; found with the
@@ -113,6 +126,8 @@ pub struct Query {
 enum Part {
     Tables,
     Joins,
+    /// Behind the J line of a full outer join, which is the last.
+    LastJoin,
     Order,
 }
 
@@ -140,6 +155,7 @@ impl Query {
         let mut query = Query {
             tables: Bounded::new(),
             joins: Bounded::new(),
+            full_outer: false,
             conditions: Bounded::new(),
             lowest: 0,
             order: Bounded::new(),
@@ -159,12 +175,14 @@ impl Query {
                     query.row(&mut cursor, cells)?;
                 }
                 b'J' if part <= Part::Joins => {
-                    part = Part::Joins;
-                    let outer = cursor.join_kind()?;
-                    let sides = (cursor.field()?, cursor.field()?);
-                    query.joins.push(Join { outer, sides, conditions: 0 });
+                    let kind = cursor.join_kind()?;
+                    let (left, right) = (cursor.field()?, cursor.field()?);
+                    query.full_outer = matches!(kind, JoinKind::FullOuter);
+                    part = if query.full_outer { Part::LastJoin } else { Part::Joins };
+                    let sides = if matches!(kind, JoinKind::RightOuter) { (right, left) } else { (left, right) };
+                    query.joins.push(Join { outer: !matches!(kind, JoinKind::Inner), sides, conditions: 0 });
                 }
-                letter @ (b'C' | b'K') if part == Part::Joins => {
+                letter @ (b'C' | b'K') if matches!(part, Part::Joins | Part::LastJoin) => {
                     let first = cursor.column()?;
                     let operator = cursor.operator()?;
                     let second = match letter {
@@ -266,12 +284,14 @@ impl Cursor<'_> {
         (value != 0).then_some(-value)
     }
 
-    /// A tab and a join's kind; whether it is outer.
-    fn join_kind(&mut self) -> Option<bool> {
+    /// A tab and a join's kind.
+    fn join_kind(&mut self) -> Option<JoinKind> {
         self.take(b'\t')?;
         match self.next() {
-            b'I' => Some(false),
-            b'L' => Some(true),
+            b'I' => Some(JoinKind::Inner),
+            b'L' => Some(JoinKind::LeftOuter),
+            b'R' => Some(JoinKind::RightOuter),
+            b'F' => Some(JoinKind::FullOuter),
             _ => None,
         }
     }

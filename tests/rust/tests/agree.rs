@@ -1,13 +1,14 @@
 //! Generated texts: the plan and the direct reading hand over the same rows (demand 3), every refusal occurs, the lent
 //! memory ends as document 01 says, the counts of each condition are those of all pairs looked at one by one, question
-//! 12 says what all pairs of a key column's cells say, and sets, derived conditions and question 13 are as worked out
-//! apart.
+//! 12 says what all pairs of a key column's cells say, sets, derived conditions and question 13 are as worked out
+//! apart, and the rows are those of the join tree read row by row.
 
 use hashjoin::chains::chains;
 use hashjoin::generate::{each_fixed_text, each_random_text};
+use hashjoin::join_tree::{Row, as_left_outer, join_tree};
 use hashjoin::key_columns::{KeyColumn, key_columns};
 use hashjoin::lent::{LEAST, Lent, MARK};
-use hashjoin::{Answer, BEST_MATCH, BLANKING, CONDITIONS, ROWS, Rows, STEPS, Step, TABLES, Tally};
+use hashjoin::{Answer, BEST_MATCH, BLANKING, CONDITIONS, NO_ROW, ROWS, Rows, STEPS, Step, TABLES, Tally};
 
 const SEED: u64 = 1;
 const COUNT: usize = 40_000;
@@ -22,6 +23,7 @@ fn report_and_direct_agree() {
     let (mut texts, mut conditions, mut highest) = (0, 0, Tally::default());
     let (mut keyed, mut most_cells) = (0, 0);
     let mut linked = Linked::default();
+    let mut kept = Kept::default();
     let mut check = |text: &[u8]| {
         texts += 1;
         lent.iter_mut().for_each(|lent| lent.result.fill(MARK));
@@ -46,6 +48,9 @@ fn report_and_direct_agree() {
         if let Ok(_) | Err(9 | 11 | 13) = planned {
             linked.check(text, &planned, &of_report.steps);
             assert_eq!(planned == Err(13), read == Err(13), "{}", shown(text));
+        }
+        if let Ok(_) | Err(11) = read {
+            kept.check(text, [&planned, &read], of_direct, &of_report.steps);
         }
         if let Ok(_) | Err(12) = read {
             let columns = key_columns(text);
@@ -82,6 +87,7 @@ fn report_and_direct_agree() {
     println!("conditions counted {conditions}; most of each {highest:?}");
     println!("key columns of answered texts {keyed}; most cells of one {most_cells}");
     println!("{linked:?}");
+    println!("{kept:?}");
     for (question, &count) in refused[0].iter().enumerate() {
         // Numbers 8 and 10 are not used.
         assert_eq!(count == 0, [1, 8, 10].contains(&question), "question {question}");
@@ -92,6 +98,9 @@ fn report_and_direct_agree() {
     assert!(linked.full > 0 && linked.one_more > 0);
     assert!([linked.derived, linked.several, linked.pairs].iter().all(|&count| count > texts / 50));
     assert!(linked.stated > texts / 200);
+    assert!([kept.right_outer, kept.added, kept.none_added, kept.moved].iter().all(|&count| count > texts / 100));
+    assert!(kept.longest > 0 && kept.most > 0 && kept.one_more > 0);
+    assert!(kept.by_right_side > 16 && kept.by_total > 16);
     let pairs = (ROWS * ROWS) as u32;
     assert_eq!(highest, Tally { holds: pairs, fails: pairs, unknown: pairs });
 }
@@ -133,6 +142,75 @@ impl Linked {
         self.full += usize::from(rows.conditions == CONDITIONS);
         let alone = |step: &&Step| step.rows > 0 && step.conditions >> chains.written != 0;
         self.pairs += steps.iter().filter(alone).filter(|step| step.conditions % (1 << chains.written) == 0).count();
+    }
+}
+
+/// What texts have of right outer and full outer joins.
+#[derive(Debug, Default)]
+struct Kept {
+    /// Answers of the report with a right outer join; of full outer joins with rows added, and with none.
+    right_outer: usize,
+    added: usize,
+    none_added: usize,
+    /// Of full outer joins: answers in which an added row does not stand behind all others; with as many steps as there
+    /// may be; and, with rows added, with as many rows as there may be.
+    moved: usize,
+    longest: usize,
+    most: usize,
+    /// Reports that question 11 turns down, and would not with kind L: by the right side's joins, and by the total; of
+    /// these with one row more than there may be.
+    by_right_side: usize,
+    by_total: usize,
+    one_more: usize,
+}
+
+impl Kept {
+    /// A text whose tree is read: the rows, or refusal 11, are those of the join tree read row by row.
+    fn check(&mut self, text: &[u8], [planned, read]: [&Answer; 2], of_direct: &Lent, steps: &[Step]) {
+        let tree = join_tree(text);
+        let rows = tree.rows();
+        assert_eq!(rows.is_some(), read.is_ok(), "{}", shown(text));
+        if let (Some(rows), Ok(read)) = (&rows, read) {
+            let numbers = rows.iter().flatten().map(|number| number.map_or(NO_ROW, |number| number as u16));
+            let written = read.rows * read.tables;
+            assert!(numbers.eq(of_direct.result[..written].iter().copied()), "{}", shown(text));
+            assert_eq!(read.added, None);
+        }
+        if let Ok(planned) = planned {
+            self.right_outer += usize::from(tree.count_of("R") > 0);
+            assert_eq!(planned.added.is_some(), tree.full_outer(), "{}", shown(text));
+        }
+        if !tree.full_outer() {
+            return;
+        }
+        let total = tree.total();
+        match planned {
+            Ok(planned) => {
+                assert!(tree.sides()[1].is_some(), "{}", shown(text));
+                assert!(tree.alone().is_none() || planned.added == tree.alone(), "{}", shown(text));
+                let added = planned.added.unwrap_or(0);
+                *if added > 0 { &mut self.added } else { &mut self.none_added } += 1;
+                self.longest += usize::from(steps[STEPS - 1].kind == BEST_MATCH);
+                self.most += usize::from(added > 0 && planned.rows == ROWS);
+                let alone = |row: &Row| tree.alone_has(row);
+                let behind = rows.iter().flatten().skip_while(|row| !alone(row)).all(alone);
+                self.moved += usize::from(!behind);
+            }
+            Err(11) => {
+                let mut other = Lent::marked(LEAST);
+                let as_left_outer = other.report(&as_left_outer(text));
+                match (as_left_outer, tree.sides()[1]) {
+                    (Err(question), _) => assert_eq!(question, 11, "{}", shown(text)),
+                    (Ok(_), None) => self.by_right_side += 1,
+                    (Ok(_), Some(_)) => {
+                        assert!(total.is_none_or(|total| total > ROWS), "{}", shown(text));
+                        self.by_total += 1;
+                        self.one_more += usize::from(total == Some(ROWS + 1));
+                    }
+                }
+            }
+            _ => (),
+        }
     }
 }
 

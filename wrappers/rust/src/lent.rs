@@ -9,7 +9,7 @@ pub const WORK: usize = 16384;
 /// The least length of the result buffer.
 pub const RESULT: usize = 2048;
 /// The least length of the answer of [`report`].
-pub const ANSWER: usize = 285;
+pub const ANSWER: usize = 287;
 /// The least length of the answer of [`direct`].
 pub const DIRECT_ANSWER: usize = 2;
 /// The least length of the output of the prints.
@@ -38,6 +38,10 @@ pub const AT_STEPS: usize = 12;
 pub const AT_CONDITIONS: usize = 92;
 /// Where the counts of the conditions begin, by rising number.
 pub const AT_TALLIES: usize = 93;
+/// 1 where the last J line is a full outer join, kind F; otherwise 0.
+pub const AT_FULL_OUTER: usize = 285;
+/// The count of rows that a full outer join adds behind the plan; otherwise 0.
+pub const AT_ADDED: usize = 286;
 
 // The places of a step.
 
@@ -114,7 +118,8 @@ macro_rules! routine {
 routine! {
     /// The report: 0 for an answer, the number of a refusal, or [`NO_ROOM`]. `answer` begins with the counts of rows,
     /// tables and steps and the status; then eight sets and sixteen steps; then the count of conditions and three
-    /// counts for each of 64 conditions. After a refusal, by question 1 too, these are 0, but for the status.
+    /// counts for each of 64 conditions; then whether the last J line is a full outer join, and the count of rows that
+    /// it adds. After a refusal, by question 1 too, these are 0, but for the status.
     report, rumbethola_report, answer: u64, u8
 }
 

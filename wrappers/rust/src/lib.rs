@@ -1,4 +1,4 @@
-//! Rumbethola for Rust: reports joined by inner and left outer joins in any joining order.
+//! Rumbethola for Rust: reports joined by inner and outer joins in any joining order.
 //!
 //! The functions of [`lent`] are the routines of the library over memory that the caller lends. [`Engine`] owns that
 //! memory and gives answers as values:
@@ -132,6 +132,7 @@ pub struct Report<'a> {
     sets: Vec<u64>,
     tallies: Vec<Tally>,
     steps: Vec<Step>,
+    added: Option<usize>,
 }
 
 impl<'a> Report<'a> {
@@ -149,6 +150,12 @@ impl<'a> Report<'a> {
     /// The plan.
     pub fn steps(&self) -> &[Step] {
         &self.steps
+    }
+
+    /// Where the last J line is a full outer join, kind F, the count of rows that it adds behind the plan: those of its
+    /// right side that are in no row of the plan. They are among [`rows`](Report::rows); the adding is no step.
+    pub fn added(&self) -> Option<usize> {
+        self.added
     }
 
     pub fn tables(&self) -> usize {
@@ -189,8 +196,9 @@ impl Engine {
     pub fn report(&mut self, text: &[u8]) -> Result<Report<'_>, Refused> {
         let mut answer = [0; lent::ANSWER];
         let status = lent::report(text, &mut self.cells, &mut self.work, &mut self.result, &mut answer);
-        let [rows, tables, count, conditions] =
-            [lent::AT_ROWS, lent::AT_TABLES, lent::AT_COUNT, lent::AT_CONDITIONS].map(|place| answer[place] as usize);
+        let [rows, tables, count, conditions, added] =
+            [lent::AT_ROWS, lent::AT_TABLES, lent::AT_COUNT, lent::AT_CONDITIONS, lent::AT_ADDED]
+                .map(|place| answer[place] as usize);
         let steps = answer[lent::AT_STEPS..].chunks_exact(lent::STEP_NUMBERS).take(count);
         let tallies = answer[lent::AT_TALLIES..].chunks_exact(lent::TALLY_NUMBERS).take(conditions);
         match status {
@@ -199,6 +207,7 @@ impl Engine {
                 sets: answer[lent::AT_SETS..][..tables].to_vec(),
                 tallies: tallies.map(tally).collect(),
                 steps: steps.map(step).collect(),
+                added: (answer[lent::AT_FULL_OUTER] == 1).then_some(added),
             }),
             question => Err(Refused { question }),
         }

@@ -30,6 +30,7 @@ fn the_report_of_document_01() {
             step(Kind::BestMatch, 0, 0, 0, 0),
         ]
     );
+    assert_eq!(report.added(), None);
     assert!(report.rows().eq([[0, 0, 0], [1, BLANK, BLANK]]));
     let rows = engine.direct(&text).unwrap();
     assert_eq!(rows.tables(), 3);
@@ -66,6 +67,28 @@ fn an_inner_join_above_an_outer_one() {
         .map(|report| (report.sets().to_vec(), report.steps().to_vec()));
     let steps = vec![step(Kind::Outer, 0, 1, 1, 0b01), step(Kind::Inner, 3, 2, 1, 0b10)];
     assert_eq!(report, Ok((vec![0b10, 0b111, 0b10], steps)));
+}
+
+/// A full outer join: its plan is that of a left outer join, and the right row without a partner is added.
+#[test]
+fn both_sides_kept() {
+    let mut engine = Engine::new();
+    let text = texts::both_sides_kept();
+    let report = engine.report(&text).unwrap();
+    assert_eq!((report.sets(), report.added()), (&[0, 0b1][..], Some(1)));
+    assert_eq!(report.steps(), [step(Kind::Outer, 0, 1, 2, 0b1)]);
+    assert!(report.rows().eq([[0, BLANK], [1, 0], [BLANK, 1]]));
+    assert!(engine.direct(&text).unwrap().rows().eq([[0, BLANK], [1, 0], [BLANK, 1]]));
+    let empty = texts::bytes("T|1 D|1 T|1 J|F|0|1 C|0|0|=|1|0");
+    assert_eq!(engine.report(&empty).unwrap().added(), Some(0));
+    let right_outer = texts::bytes("T|1 D|1 D|2 T|1 D|2 D|3 J|R|0|1 C|0|0|=|1|0");
+    let report = engine.report(&right_outer).unwrap();
+    assert_eq!((report.sets(), report.added()), (&[0b1, 0][..], None));
+    assert_eq!(report.steps(), [step(Kind::Outer, 1, 0, 2, 0b1)]);
+    assert!(report.rows().eq([[1, 0], [BLANK, 1]]));
+    let most = texts::no_partners(156, 100);
+    let report = engine.report(&most).unwrap();
+    assert_eq!((report.rows().len(), report.added()), (256, Some(100)));
 }
 
 /// A derived condition has the number behind those of the lines: hours match strains and strains temperatures, so hours
@@ -202,6 +225,7 @@ fn report_lines(answer: Result<Report, Refused>) -> Vec<u8> {
             Kind::BestMatch => "Z\n".into(),
         };
     }
+    lines += &report.added().map_or(String::new(), |added| format!("F\t{added}\n"));
     let mut print = lines.into_bytes();
     print.extend(row_lines(report.rows()));
     print

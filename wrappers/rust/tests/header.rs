@@ -25,8 +25,10 @@ fn defined() -> BTreeMap<String, u64> {
 fn the_same_numbers() {
     let ours = [
         ("ANSWER", lent::ANSWER as u64),
+        ("AT_ADDED", lent::AT_ADDED as u64),
         ("AT_CONDITIONS", lent::AT_CONDITIONS as u64),
         ("AT_COUNT", lent::AT_COUNT as u64),
+        ("AT_FULL_OUTER", lent::AT_FULL_OUTER as u64),
         ("AT_ROWS", lent::AT_ROWS as u64),
         ("AT_SETS", lent::AT_SETS as u64),
         ("AT_STATUS", lent::AT_STATUS as u64),
@@ -72,5 +74,7 @@ fn the_places_of_an_answer() {
     assert_eq!(lent::AT_SETS + TABLES, lent::AT_STEPS);
     assert_eq!(lent::AT_STEPS + STEPS * lent::STEP_NUMBERS, lent::AT_CONDITIONS);
     assert_eq!(lent::AT_CONDITIONS + 1, lent::AT_TALLIES);
-    assert_eq!(lent::AT_TALLIES + CONDITIONS * lent::TALLY_NUMBERS, lent::ANSWER);
+    assert_eq!(lent::AT_TALLIES + CONDITIONS * lent::TALLY_NUMBERS, lent::AT_FULL_OUTER);
+    assert_eq!(lent::AT_FULL_OUTER + 1, lent::AT_ADDED);
+    assert_eq!(lent::AT_ADDED + 1, lent::ANSWER);
 }

@@ -10,7 +10,7 @@ const BEHIND: usize = 8;
 /// A number that no call writes: no row, count, set, letter or digit.
 const MARK: u8 = 201;
 /// How many numbers an answer of the report has.
-const ANSWER: usize = 285;
+const ANSWER: usize = 287;
 
 #[derive(Clone, Copy, Debug, PartialEq)]
 enum Routine {
@@ -134,7 +134,8 @@ fn any_texts() -> Vec<Vec<u8>> {
 #[test]
 fn a_the_buffer_that_is_handed_over_in_is_too_short() {
     for routine in ROUTINES {
-        for short in [0, 1, routine.least()[3] - 1] {
+        // 285: what the answer of the report had before full outer joins.
+        for short in [0, 1, 285.min(routine.least()[3] - 1), routine.least()[3] - 1] {
             for other in [0, 4096, 20000] {
                 for text in any_texts() {
                     check(routine, &text, [other, other, other, short], |_| routine.too_short());
@@ -204,14 +205,48 @@ fn d_there_is_an_answer() {
     }
 }
 
-/// An answer whose sets have every bit, and whose counts fill the answer to its end.
+/// A full outer join: the two numbers behind the counts of conditions, with a row added and with none.
+#[test]
+fn d_the_last_join_is_a_full_outer_join() {
+    let mut numbers = [0; ANSWER];
+    numbers[..6].copy_from_slice(&[3, 2, 1, 0, 0, 0b1]);
+    numbers[12..17].copy_from_slice(&[2, 0, 1, 2, 0b1]);
+    numbers[92..96].copy_from_slice(&[1, 1, 3, 0]);
+    numbers[285..].copy_from_slice(&[1, 1]);
+    let direct = texts::bytes("R|0|- R|1|0 R|-|1");
+    let report = [texts::bytes("S|0 S|1|0 U|0|1|3|0 M|L|0|1|2|0 F|1"), direct.clone()].concat();
+    for routine in ROUTINES {
+        for more in [0, 5] {
+            let lengths = routine.least().map(|least| least + more);
+            check(routine, &texts::both_sides_kept(), lengths, |expected| {
+                expected.clear();
+                expected.result[..6].copy_from_slice(&[0, BLANK, 1, 0, BLANK, 1]);
+                expected.hand_over(routine, 0, &numbers, &[3, 2], [&report, &direct])
+            });
+        }
+    }
+    let mut numbers = [0; ANSWER];
+    numbers[..6].copy_from_slice(&[0, 2, 1, 0, 0, 0b1]);
+    numbers[12..17].copy_from_slice(&[2, 0, 1, 0, 0b1]);
+    numbers[92] = 1;
+    numbers[285] = 1;
+    let report = texts::bytes("S|0 S|1|0 U|0|0|0|0 M|L|0|1|0|0 F|0");
+    for routine in ROUTINES {
+        check(routine, &texts::bytes("T|1 T|1 J|F|0|1 C|0|0|=|1|0"), routine.least(), |expected| {
+            expected.clear();
+            expected.hand_over(routine, 0, &numbers, &[0, 2], [&report, &[]])
+        });
+    }
+}
+
+/// An answer whose sets have every bit, and whose counts have every place.
 #[test]
 fn d_there_are_as_many_conditions_as_there_may_be() {
     let mut numbers = [0; ANSWER];
     numbers[..6].copy_from_slice(&[1, 2, 1, 0, 0, u64::MAX]);
     numbers[12..17].copy_from_slice(&[2, 0, 1, 1, u64::MAX]);
     numbers[92] = 64;
-    numbers[93..].chunks_exact_mut(3).for_each(|tally| tally.copy_from_slice(&[1, 0, 0]));
+    numbers[93..285].chunks_exact_mut(3).for_each(|tally| tally.copy_from_slice(&[1, 0, 0]));
     let set: String = (0..64).map(|number| format!("|{number}")).collect();
     let counts: String = (0..64).map(|number| format!("U|{number}|1|0|0 ")).collect();
     let report = texts::bytes(&format!("S|0 S|1{set} {counts}M|L|0|1|1{set} R|0|0"));

@@ -1,6 +1,6 @@
 //! Puts texts to the proved library and to this crate's engine and compares all that the calls return and leave in
-//! lent memory: the status, the answer's numbers (counts, sets, steps, and how often each condition is true, false and
-//! unknown), the prints, and every lent buffer.
+//! lent memory: the status, the answer's numbers (counts, sets, steps, how often each condition is true, false and
+//! unknown, and what a full outer join adds), the prints, and every lent buffer.
 //!
 //!     differ [--seed SEED] [--count COUNT] [--seconds SECONDS]
 //!
@@ -10,12 +10,12 @@
 //!
 //! Exit status 1: a difference, whose text is written to target/differ.in, or a refusal other than 8 and 10 or an
 //! outcome of conditions that did not occur, or a kind of key column, of pairs whose conditions are of several joins,
-//! or of derived conditions, that is rare. Numbers 8 and 10 are not used.
+//! of derived conditions, or of right outer and full outer joins, that is rare. Numbers 8 and 10 are not used.
 
 #[path = "differ/counts.rs"]
 mod counts;
 
-use counts::{Counts, Derived, KeyColumns, NOT_USED, Outcomes, Pairs, three};
+use counts::{BothSides, Counts, Derived, KeyColumns, NOT_USED, Outcomes, Pairs, three};
 use hashjoin::generate::{Random, each_fixed_text, each_random_text};
 use hashjoin::lent::{LEAST, Lent};
 use hashjoin::{Answer, CONDITIONS, Rows, STEPS, Step, Tally, write_direct, write_report};
@@ -119,14 +119,27 @@ struct Differ {
     key_columns: KeyColumns,
     pairs: Pairs,
     derived: Derived,
+    both_sides: BothSides,
 }
 
 impl Differ {
     fn new(seed: u64) -> Differ {
         let [start, expected, found] = [(); 3].map(|()| Memory::new());
-        let (report, direct, outcomes, key_columns, pairs, derived) = Default::default();
         let random = Random::new(!seed);
-        Differ { start, expected, found, random, calls: 0, report, direct, outcomes, key_columns, pairs, derived }
+        Differ {
+            start,
+            expected,
+            found,
+            random,
+            calls: 0,
+            report: Counts::default(),
+            direct: Counts::default(),
+            outcomes: Outcomes::default(),
+            key_columns: KeyColumns::default(),
+            pairs: Pairs::default(),
+            derived: Derived::default(),
+            both_sides: BothSides::default(),
+        }
     }
 
     /// The lengths of a call by chance: now and then one is too short.
@@ -167,7 +180,9 @@ impl Differ {
                 self.key_columns.count(text, true);
                 self.pairs.count(text, &expected.lent.steps);
                 self.derived.count(text, rows, &expected.lent.steps);
+                self.both_sides.count(text, rows, &expected.lent.steps);
             }
+            (Err(11), 11) => self.both_sides.count_refusal(text),
             (Err(12), 12) => self.key_columns.count(text, false),
             (Err(13), 13) => self.derived.count_refusal(text),
             _ => (),
@@ -200,6 +215,9 @@ impl Differ {
         let (cells, work, result) = parts!(found, lengths);
         let status = library::direct(text, cells, work, result, &mut found.answer[..lengths[4]]);
         self.direct.count(status);
+        if answer == Err(11) && status == 11 {
+            self.both_sides.count_direct_refusal(text);
+        }
         if lengths[4] < library::DIRECT_ANSWER {
             same("direct", text, lengths, status == library::NO_ROOM, &self.start, found);
         } else {
@@ -231,6 +249,8 @@ fn report_numbers(answer: &Answer, steps: &[Step]) -> Vec<u64> {
     }
     numbers.push(conditions as u64);
     numbers.extend(tallies.iter().flat_map(three));
+    let added = answer.ok().and_then(|rows| rows.added);
+    numbers.extend([added.is_some().into(), added.unwrap_or(0) as u64]);
     numbers
 }
 
@@ -321,12 +341,13 @@ fn main() {
         each_lengths(&mut |lengths| differ.compare(text, lengths));
     }
 
-    // The fixed texts have every operator and every kind of key column and derived condition, whatever those made by
-    // chance have.
+    // The fixed texts have every operator and every kind of key column, derived condition and join, whatever those made
+    // by chance have.
     differ.outcomes.begin_chance();
     differ.key_columns.begin_chance();
     differ.pairs = Pairs::default();
     differ.derived = Derived::default();
+    differ.both_sides.begin_chance();
     let mut seed = options.seed;
     while chance < options.count && options.time.is_none_or(|time| began.elapsed() < time) {
         let batch = BATCH.min(options.count - chance);
@@ -345,6 +366,7 @@ fn main() {
     differ.key_columns.print();
     differ.pairs.print();
     differ.derived.print();
+    differ.both_sides.print();
     println!("no difference, {:.1} s", began.elapsed().as_secs_f64());
     if differ.report.lacks(&NOT_USED) || differ.direct.lacks(&[&NOT_USED[..], &[9]].concat()) {
         println!("a refusal did not occur");
@@ -364,6 +386,10 @@ fn main() {
     }
     if differ.derived.lacks() {
         println!("a kind of derived conditions is rare");
+        exit(1)
+    }
+    if differ.both_sides.lacks() {
+        println!("a kind of right outer or full outer joins is rare");
         exit(1)
     }
 }

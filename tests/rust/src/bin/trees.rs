@@ -1,5 +1,6 @@
 //! Puts every joining order of reports of eight tables to the proved library. Each order that is not refused by
-//! question 11 must give the rows of the direct reading, which are those of this crate's engine too.
+//! question 11 must give the rows of the direct reading, which are those of this crate's engine too. Where the last
+//! join is a full outer join, each must add as many rows as the direct reading has more than that of a left outer join.
 //!
 //!     trees
 //!
@@ -8,8 +9,9 @@
 //! has one list of P lines: its nodes from the bottom up, left before right, and left is the side that has the lowest
 //! table.
 //!
-//! Exit status 1: other rows, another refusal, or another count of orders.
+//! Exit status 1: other rows, another count of rows added, another refusal, or another count of orders.
 
+use hashjoin::join_tree::as_left_outer;
 use hashjoin::lent::{LEAST, Lent};
 use rumbethola::{Engine, Kind};
 use std::collections::HashSet;
@@ -20,12 +22,13 @@ const TABLES: usize = 8;
 const ORDERS: usize = 135_135;
 
 /// Reports of eight tables without P lines; | stands for a tab.
-const REPORTS: [(&str, &str); 5] = [
+const REPORTS: [(&str, &str); 6] = [
     ("gaps", GAPS),
     ("an empty table", EMPTY),
     ("products", PRODUCTS),
     ("outer joins undone", UNDONE),
     ("links that follow", LINKS),
+    ("both sides kept", BOTH_SIDES),
 ];
 
 /// Two or three rows a table, with blank cells; inner and outer joins mixed, both sides of a join being joins.
@@ -119,6 +122,25 @@ J|L|5|6\nC|5|0|=|6|0\n\
 J|L|11|12\nC|1|0|=|5|0\nC|3|0|<=|6|1\nC|1|1|=|0|1\n\
 J|L|13|7\nC|6|0|=|7|0\nC|0|0|=|5|0\nC|0|1|=|1|1\n";
 
+/// A full outer join whose two sides are joins, with right outer joins below it and K lines of both sides: rows of both
+/// sides have no partner.
+const BOTH_SIDES: &str = "\
+T|2\nD|1|5\nD|2|6\nD|-|5\n\
+T|1\nD|1\nD|4\n\
+T|2\nD|1|7\nD|3|8\n\
+T|1\nD|7\n\
+T|2\nD|5|1\nD|6|2\nD|9|-\n\
+T|1\nD|1\nD|3\n\
+T|2\nD|5|4\nD|9|4\n\
+T|1\nD|4\n\
+J|R|0|1\nC|0|0|=|1|0\n\
+J|L|2|3\nC|2|1|=|3|0\n\
+J|L|8|9\nC|1|0|=|2|0\n\
+J|R|5|4\nC|4|1|=|5|0\n\
+J|I|6|7\nC|6|1|=|7|0\n\
+J|L|11|12\nC|4|0|=|6|0\n\
+J|F|10|13\nC|0|1|=|4|0\nK|1|0|<|4\nK|4|0|<>|6\n";
+
 /// A tree: a table, or two trees.
 #[derive(Clone)]
 enum Tree {
@@ -191,6 +213,14 @@ fn check(name: &str, report: &str, orders: &[Vec<(usize, usize)>]) {
         _ => fail("the two direct readings differ", &query),
     }
 
+    let mut added = None;
+    if report.contains("J|F") {
+        match lent.direct(&as_left_outer(&query)) {
+            Ok(rows) => added = Some(count - rows.rows),
+            Err(_) => fail("the direct reading refuses kind L", &query),
+        }
+    }
+
     let (mut answered, mut refused, mut kinds, mut most_rows) = (0, 0, [0; 5], 0);
     for order in orders {
         let mut text = query.clone();
@@ -203,6 +233,9 @@ fn check(name: &str, report: &str, orders: &[Vec<(usize, usize)>]) {
                 if !report.rows().flatten().eq(&expected) {
                     fail("other rows", &text);
                 }
+                if report.added() != added {
+                    fail("another count of rows added", &text);
+                }
                 for step in report.steps() {
                     kinds[kind_place(step.kind)] += 1;
                     most_rows = most_rows.max(step.rows);
@@ -212,8 +245,9 @@ fn check(name: &str, report: &str, orders: &[Vec<(usize, usize)>]) {
             Err(_) => fail("another refusal", &text),
         }
     }
+    let of_these = added.map_or(String::new(), |added| format!(", {added} of them added"));
     println!(
-        "{name}: {count} rows; {answered} orders give them, {refused} are refused by 11, {:.1} s",
+        "{name}: {count} rows{of_these}; {answered} orders give them, {refused} are refused by 11, {:.1} s",
         began.elapsed().as_secs_f64()
     );
     println!(

@@ -3,7 +3,7 @@
 use super::Random;
 
 /// Fields that are read where they should not be, or refused where they should be read.
-const FIELDS: [&str; 51] = [
+const FIELDS: [&str; 56] = [
     "",
     "-",
     "--",
@@ -50,20 +50,27 @@ const FIELDS: [&str; 51] = [
     "><",
     "I",
     "L",
+    "R",
+    "F",
     "i",
+    "r",
+    "f",
+    "FF",
     "O",
     " 1",
     "1 ",
     "1\r",
 ];
 
-const BYTES: &[u8] = b"\t\n\r -+0123456789<=>TDJCKPILSMBZRE.\0\xff";
+const BYTES: &[u8] = b"\t\n\r -+0123456789<=>TDJCKPILFSMBZREf.\0\xff";
 
-/// Each line dropped, repeated and moved to each place; each field removed, repeated, and replaced and preceded by
-/// each of FIELDS; each byte removed, each of its bits flipped, and replaced and preceded by each of BYTES.
-pub fn everywhere(text: &[u8], take: &mut dyn FnMut(&[u8])) {
+/// Each line dropped, repeated and moved to each place; and of the lines that are chosen each field removed, repeated,
+/// and replaced and preceded by each of FIELDS, and each byte removed, each of its bits flipped, and replaced and
+/// preceded by each of BYTES.
+pub fn everywhere(text: &[u8], chosen: impl Fn(&[u8]) -> bool, take: &mut dyn FnMut(&[u8])) {
     let lines = split(text, b'\n');
     let count = lines.len() - 1;
+    let mut start = 0;
     for at in 0..count {
         take(&[&lines[..at], &lines[at + 1..]].concat().join(&b'\n'));
         for to in 0..count {
@@ -77,31 +84,42 @@ pub fn everywhere(text: &[u8], take: &mut dyn FnMut(&[u8])) {
             repeated.insert(to, lines[at].clone());
             take(&repeated.join(&b'\n'));
         }
-        let mut with_fields = |fields: &[Vec<u8>]| {
-            let mut changed = lines.clone();
-            changed[at] = fields.join(&b'\t');
-            take(&changed.join(&b'\n'));
-        };
-        let fields = split(&lines[at], b'\t');
-        for field in 0..fields.len() {
-            let (before, after) = (&fields[..field], &fields[field + 1..]);
-            with_fields(&[before, after].concat());
-            with_fields(&[&fields[..=field], &fields[field..]].concat());
-            for other in FIELDS.map(|other| other.as_bytes().to_vec()) {
-                with_fields(&[before, std::slice::from_ref(&other), after].concat());
-                with_fields(&[before, &[other], &fields[field..]].concat());
-            }
+        // With its line feed.
+        let end = start + lines[at].len() + 1;
+        if chosen(&lines[at]) {
+            each_field(&lines, at, take);
+            (start..end).for_each(|at| each_byte(text, at, take));
+        }
+        start = end;
+    }
+}
+
+fn each_field(lines: &[Vec<u8>], at: usize, take: &mut dyn FnMut(&[u8])) {
+    let mut with_fields = |fields: &[Vec<u8>]| {
+        let mut changed = lines.to_vec();
+        changed[at] = fields.join(&b'\t');
+        take(&changed.join(&b'\n'));
+    };
+    let fields = split(&lines[at], b'\t');
+    for field in 0..fields.len() {
+        let (before, after) = (&fields[..field], &fields[field + 1..]);
+        with_fields(&[before, after].concat());
+        with_fields(&[&fields[..=field], &fields[field..]].concat());
+        for other in FIELDS.map(|other| other.as_bytes().to_vec()) {
+            with_fields(&[before, std::slice::from_ref(&other), after].concat());
+            with_fields(&[before, &[other], &fields[field..]].concat());
         }
     }
-    for at in 0..text.len() {
-        let (before, after) = (&text[..at], &text[at + 1..]);
-        take(before);
-        take(&[before, after].concat());
-        (0..8).for_each(|bit| take(&[before, &[text[at] ^ 1 << bit], after].concat()));
-        for &byte in BYTES {
-            take(&[before, &[byte], after].concat());
-            take(&[before, &[byte], &text[at..]].concat());
-        }
+}
+
+fn each_byte(text: &[u8], at: usize, take: &mut dyn FnMut(&[u8])) {
+    let (before, after) = (&text[..at], &text[at + 1..]);
+    take(before);
+    take(&[before, after].concat());
+    (0..8).for_each(|bit| take(&[before, &[text[at] ^ 1 << bit], after].concat()));
+    for &byte in BYTES {
+        take(&[before, &[byte], after].concat());
+        take(&[before, &[byte], &text[at..]].concat());
     }
 }
 

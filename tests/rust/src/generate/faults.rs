@@ -1,12 +1,12 @@
-//! Faults that turn a valid report into one that questions 3 to 7, 9 and 11 to 13 turn down.
+//! Faults that turn a valid report into one that questions 2 to 7, 9 and 11 to 13 turn down.
 
 use super::Random;
-use super::reports::{Condition, Other, Report, Table};
+use super::reports::{Condition, FULL_OUTER, Other, RIGHT_OUTER, Report, Table};
 use crate::{BLANK, CELLS, COLUMNS, ROWS, TABLES, WRITTEN};
 
 /// Adds one fault, where the report has a place for it.
 pub fn add(report: &mut Report, random: &mut Random) {
-    match random.below(9) {
+    match random.below(10) {
         0 => size(report, random),
         1 => width(report, random),
         2 => tree(report, random),
@@ -15,8 +15,20 @@ pub fn add(report: &mut Report, random: &mut Random) {
         5 => order(report, random),
         6 => key_column(report, random),
         7 => many_links(report, random),
+        8 => kind(report, random),
         _ => many_rows(report, random),
     }
+}
+
+/// Question 2: a full outer join that is not the last J, or a kind that there is not. Of a lone join, and of the last
+/// one, it is most often a fault no longer.
+fn kind(report: &mut Report, random: &mut Random) {
+    if report.joins.is_empty() {
+        return;
+    }
+    let at = random.below(report.joins.len());
+    let other = random.pick(&["f", "r", "O", "FL", "LF", "F ", ""]);
+    report.joins[at].kind = random.pick(&[FULL_OUTER, FULL_OUTER, FULL_OUTER, RIGHT_OUTER, other]);
 }
 
 /// Question 3.

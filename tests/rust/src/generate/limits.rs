@@ -1,7 +1,9 @@
 //! Reports at each limit, and one past it.
 
-use super::reports::{Condition, Join, OPERATORS, Other, Report, Table};
+use super::reports::{Condition, FULL_OUTER, INNER, Join, LEFT_OUTER, OPERATORS, Other, RIGHT_OUTER, Report, Table};
 use crate::{BLANK, COLUMNS, ROWS, TABLES, TEXT, WRITTEN};
+use std::collections::VecDeque;
+use std::ops::Range;
 
 pub fn each(take: &mut dyn FnMut(&[u8])) {
     for report in reports() {
@@ -53,6 +55,177 @@ fn reports() -> Vec<Report> {
     reports.extend(counted_conditions());
     reports.extend(key_columns());
     reports.extend(linked_columns());
+    reports.extend(rows_added());
+    reports.extend(wide_right_sides());
+    reports.extend(kinds_of_joins());
+    reports.extend(full_outer_of_eight());
+    reports.extend(full_outer_and_fault());
+    reports
+}
+
+/// Full outer joins of two tables, with about as many rows as there may be: by pairs, by rows of the left side alone,
+/// and by rows of the right side alone, which are added. A right outer join and a left outer join of the same.
+fn rows_added() -> Vec<Report> {
+    let mut reports = vec![];
+    for [both, left, right] in [
+        [0, 156, 100],
+        [0, 156, 101],
+        [0, 200, 100],
+        [0, 255, 1],
+        [0, 256, 0],
+        [0, 256, 1],
+        [0, 1, 255],
+        [0, 1, 256],
+        [0, 0, 256],
+        [0, 256, 256],
+        [1, 255, 0],
+        [1, 0, 255],
+        [1, 254, 1],
+        [1, 254, 2],
+        [15, 15, 16],
+        [15, 31, 0],
+        [15, 15, 17],
+        [16, 0, 0],
+        [16, 0, 1],
+        [16, 1, 0],
+        [0, 0, 0],
+    ] {
+        let tables = [[left, 2], [right, 3]].map(|[rows, cell]| {
+            let cells = [vec![1; both], vec![cell as i32; rows]].concat();
+            column(cells)
+        });
+        for kind in [FULL_OUTER, RIGHT_OUTER, LEFT_OUTER] {
+            for sides in [[0, 1], [1, 0]] {
+                let mut report = of_kind(chain(tables.to_vec(), true), kind);
+                report.joins[0].sides = sides;
+                reports.push(report.clone());
+                report.order = vec![[1, 0]];
+                reports.push(report);
+            }
+        }
+    }
+    reports
+}
+
+/// The right side is a join with just as many rows as there may be, or more, and few of them have a partner. One order
+/// joins the left side first, so that no pair of it has so many.
+fn wide_right_sides() -> Vec<Report> {
+    let mut reports = vec![];
+    for [left, middle, right] in [[1, 16, 16], [0, 16, 16], [1, 15, 17], [1, 16, 17], [0, 16, 17], [1, 17, 17]] {
+        let mut rows = vec![vec![0, 5]; middle];
+        rows[0][0] = 1;
+        let middle = Table { columns: 2, rows, key_column: None };
+        let tables = vec![constant(1, left), middle, column(vec![5; right])];
+        for below in [INNER, LEFT_OUTER, RIGHT_OUTER] {
+            for kind in [FULL_OUTER, RIGHT_OUTER, LEFT_OUTER] {
+                for order in [vec![], vec![[0, 1], [3, 2]], vec![[1, 2], [0, 3]]] {
+                    let below = Join { kind: below, ..join(false, [1, 2], [1, 2], |table| 2 - table) };
+                    let last = Join { kind, ..join(true, [0, 3], [0, 1], |_| 0) };
+                    reports.push(Report { tables: tables.clone(), joins: vec![below, last], order });
+                }
+            }
+        }
+    }
+    reports
+}
+
+/// The report with another kind of last join.
+fn of_kind(mut report: Report, kind: &'static str) -> Report {
+    report.joins.last_mut().expect("a join").kind = kind;
+    report
+}
+
+/// Three tables, each with rows that have a partner and rows that have none: every kind of both joins, both sequences
+/// of the last one's sides, a K line of either side or none, every order.
+fn kinds_of_joins() -> Vec<Report> {
+    let tables = [[1, 2, BLANK, 3], [2, 1, 4, BLANK], [1, 3, 4, 9]].map(|cells| column(cells.to_vec()));
+    let mut reports = vec![];
+    for below in [INNER, LEFT_OUTER, RIGHT_OUTER] {
+        for kind in [INNER, LEFT_OUTER, RIGHT_OUTER, FULL_OUTER] {
+            for sides in [[3, 2], [2, 3]] {
+                for named in 0..=3 {
+                    for order in [vec![], vec![[0, 1], [3, 2]], vec![[0, 2], [1, 3]], vec![[2, 1], [0, 3]]] {
+                        let below = Join { kind: below, ..join(false, [0, 1], [0, 1], |_| 0) };
+                        let mut last = Join { kind, ..join(false, sides, [1, 2], |_| 0) };
+                        if named < 3 {
+                            let other = Other::Constant(3);
+                            last.conditions.push(Condition { table: named, column: 0, operator: "<>", other });
+                        }
+                        reports.push(Report { tables: tables.to_vec(), joins: vec![below, last], order });
+                    }
+                }
+            }
+        }
+    }
+    reports
+}
+
+/// A full outer join of eight tables, with one, two, .. seven of them in its right side, inner or outer joins below it;
+/// one with as many steps as a plan may have, each side being blanked by a K line; and one with as many conditions as
+/// there may be.
+fn full_outer_of_eight() -> Vec<Report> {
+    let cells = |table: i32| (0..4).map(|row| if row == table % 4 { 10 + table } else { row }).collect();
+    let tables: Vec<Table> = (0..8).map(|table| column(cells(table))).collect();
+    let by_tables: Vec<[usize; 2]> = (0..7).map(|pair| [if pair == 0 { 0 } else { 7 + pair }, pair + 1]).collect();
+    let mut reports = vec![];
+    for right in 1..=7 {
+        for kind in [INNER, LEFT_OUTER, RIGHT_OUTER] {
+            for in_pairs in [false, true] {
+                let mut joins = vec![];
+                let sides = [0..8 - right, 8 - right..8].map(|tables| join_side(tables, kind, in_pairs, &mut joins));
+                joins.push(Join { kind: FULL_OUTER, ..join(true, sides, [7 - right, 8 - right], |_| 0) });
+                for order in [vec![], by_tables.clone()] {
+                    reports.push(Report { tables: tables.clone(), joins: joins.clone(), order });
+                }
+            }
+        }
+    }
+    let mut longest = of_kind(longest_plan(), FULL_OUTER);
+    longest.joins[5].conditions.push(Condition { table: 1, column: 0, operator: ">", other: Other::Constant(0) });
+    reports.extend([longest, of_kind(all_linked(2, COLUMNS, true), FULL_OUTER)]);
+    reports
+}
+
+/// Joins tables one after the other, or all neighbours before any two joins. Gives the node.
+fn join_side(tables: Range<usize>, kind: &'static str, in_pairs: bool, joins: &mut Vec<Join>) -> usize {
+    // Each node with one of its tables.
+    let mut waiting: VecDeque<[usize; 2]> = tables.map(|table| [table, table]).collect();
+    loop {
+        let [node, named] = waiting.pop_front().expect("a side has a table");
+        let Some([second, of_second]) = waiting.pop_front() else { return node };
+        joins.push(Join { kind, ..join(false, [node, second], [named, of_second], |_| 0) });
+        let joined = [7 + joins.len(), of_second];
+        if in_pairs {
+            waiting.push_back(joined);
+        } else {
+            waiting.push_front(joined);
+        }
+    }
+}
+
+/// A full outer join that is not the last J, beside what each other question turns down.
+fn full_outer_and_fault() -> Vec<Report> {
+    let mut wrong = chain(vec![counted(1, 2); 3], true);
+    wrong.joins[0].kind = FULL_OUTER;
+    let mut reports = vec![wrong; 12];
+    reports[1].joins[1].kind = FULL_OUTER;
+    reports[2].joins[1].kind = RIGHT_OUTER;
+    reports[3].tables[1].columns = 9;
+    reports[4].tables.clear();
+    reports[5].tables[1].rows[0].push(0);
+    reports[6].tables[1].key_column = Some(8);
+    reports[7].joins[1].sides = [0, 0];
+    reports[8].joins[0].conditions[0].column = 8;
+    reports[9].joins[0].conditions[0].other = Other::Constant(1);
+    reports[10].order = vec![[0, 0]];
+    reports[11].tables = vec![constant(1, 17); 3];
+    // The last J, beside a fault.
+    let last: Vec<Report> = reports.iter().skip(3).cloned().collect();
+    reports.extend(last.into_iter().map(|mut report| {
+        report.joins[0].kind = RIGHT_OUTER;
+        report.joins[1].kind = FULL_OUTER;
+        report
+    }));
     reports
 }
 
@@ -362,7 +535,8 @@ fn chain(tables: Vec<Table>, outer: bool) -> Report {
 fn join(outer: bool, sides: [usize; 2], [first, second]: [usize; 2], column: impl Fn(usize) -> usize) -> Join {
     let other = Other::Column(second, column(second));
     let condition = Condition { table: first, column: column(first), operator: "=", other };
-    Join { outer, sides, named: Default::default(), conditions: vec![condition] }
+    let kind = if outer { LEFT_OUTER } else { INNER };
+    Join { kind, sides, named: Default::default(), conditions: vec![condition] }
 }
 
 /// Eight tables of 3072 + 256 * `wide` + `last` cells, each joined to the first by its row number.

@@ -6,6 +6,11 @@ use std::fmt::Write;
 
 pub const OPERATORS: [&str; 6] = ["<", "=", "<=", ">", "<>", ">="];
 const EQUAL: &str = "=";
+/// The kinds of J lines. A full outer join is the last J.
+pub const INNER: &str = "I";
+pub const LEFT_OUTER: &str = "L";
+pub const RIGHT_OUTER: &str = "R";
+pub const FULL_OUTER: &str = "F";
 
 #[derive(Clone, Default)]
 pub struct Table {
@@ -47,7 +52,7 @@ impl Condition {
 
 #[derive(Clone)]
 pub struct Join {
-    pub outer: bool,
+    pub kind: &'static str,
     pub sides: [usize; 2],
     /// The tables of each side that its conditions may name.
     pub named: [Vec<usize>; 2],
@@ -76,6 +81,9 @@ impl Report {
         }
         if random.one_in(12) {
             return Report::of_many_links(random);
+        }
+        if random.one_in(40) {
+            return Report::of_a_wide_right_side(random);
         }
         let count = random.pick(&[1, 2, 2, 3, 3, 3, 4, 4, 4, 5, 5, 6, 6, 7, 8]);
         // Many rows go with many values, so that results stay small.
@@ -113,8 +121,8 @@ impl Report {
             report.tables.push(Table { columns: 2, rows, key_column });
         }
         let equal = Condition { table: 0, column: 0, operator: EQUAL, other: Other::Column(1, 0) };
-        let outer = random.one_in(2);
-        let mut join = Join { outer, sides: [0, 1], named: [vec![0], vec![1]], conditions: vec![equal] };
+        let kind = random.pick(&[INNER, LEFT_OUTER, RIGHT_OUTER, FULL_OUTER]);
+        let mut join = Join { kind, sides: [0, 1], named: [vec![0], vec![1]], conditions: vec![equal] };
         for _ in 0..1 + random.below(6) {
             let more = report.one_more(&join, 3, random);
             join.conditions.push(more);
@@ -123,6 +131,35 @@ impl Report {
         if random.one_in(2) {
             report.order = order(2, random);
         }
+        report
+    }
+
+    /// A full outer join whose right side is a join with about as many rows as there may be. Few of them have a
+    /// partner, so that a plan that joins the left side first meets no limit before they are added. Now and then it is
+    /// an outer join of another kind.
+    fn of_a_wide_right_side(random: &mut Random) -> Report {
+        let mut report = Report::default();
+        let [left_rows, middle_rows, right_rows] =
+            [random.pick(&[0, 1, 2, 5]), 14 + random.below(5), 14 + random.below(5)];
+        let unlike = random.pick(&[20, 1000, 1000]);
+        let link = |random: &mut Random| i32::from(random.one_in(unlike));
+        let left = (0..left_rows as i32).map(|row| vec![row]).collect();
+        let middle = (0..middle_rows).map(|_| vec![random.below(30) as i32, link(random)]).collect();
+        let right = (0..right_rows).map(|_| vec![link(random)]).collect();
+        for (columns, rows) in [(1, left), (2, middle), (1, right)] {
+            report.tables.push(Table { columns, rows, key_column: None });
+        }
+        let equal = |table, column, second, of_second| {
+            let other = Other::Column(second, of_second);
+            vec![Condition { table, column, operator: EQUAL, other }]
+        };
+        let kind = random.pick(&[INNER, INNER, LEFT_OUTER, RIGHT_OUTER]);
+        let [middle, right] = [vec![1], vec![2]];
+        report.joins.push(Join { kind, sides: [1, 2], named: [middle, right], conditions: equal(1, 1, 2, 0) });
+        let kind = random.pick(&[FULL_OUTER, FULL_OUTER, FULL_OUTER, LEFT_OUTER, RIGHT_OUTER]);
+        let named = [vec![0], vec![1, 2]];
+        report.joins.push(Join { kind, sides: [0, 3], named, conditions: equal(0, 0, 1, 0) });
+        report.order = random.pick(&[&[][..], &[[0, 1], [3, 2]], &[[0, 1], [3, 2]], &[[2, 1], [3, 0]]]).to_vec();
         report
     }
 
@@ -155,8 +192,9 @@ impl Report {
         report
     }
 
-    /// Joins whose conditions name any table under them. One report of five is made so that its tree is simplified: no
-    /// join names a table right of an outer join in a side that it blanks.
+    /// Joins whose conditions name any table under them. Of three outer joins one is a right outer join, and of three
+    /// that are the last one is a full outer join. One report of five is made so that its tree is simplified: no join
+    /// names a table that an outer join below blanks in a side that it blanks itself.
     fn add_joins(&mut self, values: usize, random: &mut Random) {
         let count = self.tables.len();
         let simplified = random.one_in(5);
@@ -175,7 +213,14 @@ impl Report {
             let named = [named(&left, !outer), named(&right, true)];
             let nullable = [left.nullable, if outer { right.tables.clone() } else { right.nullable }].concat();
             let tables = [&left.tables[..], &right.tables].concat();
-            let mut join = Join { outer, sides: [left.number, right.number], named, conditions: vec![] };
+            let last = number == 2 * count - 2;
+            let kind = match (outer, random.below(3)) {
+                (false, _) => INNER,
+                (true, 0) => RIGHT_OUTER,
+                (true, 1) if last => FULL_OUTER,
+                (true, _) => LEFT_OUTER,
+            };
+            let mut join = Join { kind, sides: [left.number, right.number], named, conditions: vec![] };
             let between = self.between(&join, random);
             join.conditions.push(between);
             while random.one_in(3) {
@@ -193,6 +238,10 @@ impl Report {
                     join.conditions.push(aside);
                     asides.push(aside);
                 }
+            }
+            if kind == RIGHT_OUTER {
+                join.sides.reverse();
+                join.named.reverse();
             }
             self.joins.push(join);
             roots.push(Node { number, tables, nullable });
@@ -310,8 +359,7 @@ impl Report {
             }
         }
         for join in &self.joins {
-            let kind = if join.outer { 'L' } else { 'I' };
-            line(&mut text, format_args!("J\t{kind}\t{}\t{}", join.sides[0], join.sides[1]));
+            line(&mut text, format_args!("J\t{}\t{}\t{}", join.kind, join.sides[0], join.sides[1]));
             for Condition { table, column, operator, other } in &join.conditions {
                 match other {
                     Other::Column(second, of_second) => {

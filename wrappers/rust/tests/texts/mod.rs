@@ -31,6 +31,16 @@ pub fn all_match(left: usize, right: usize) -> Vec<u8> {
     bytes(&format!("T|1 {}T|1 {}J|I|0|1 C|0|0|=|1|0", rows(left), rows(right)))
 }
 
+/// A full outer join: one row of each side has a partner.
+pub fn both_sides_kept() -> Vec<u8> {
+    bytes("T|1 D|1 D|2 T|1 D|2 D|3 J|F|0|1 C|0|0|=|1|0")
+}
+
+/// A full outer join of so many rows without a partner.
+pub fn no_partners(left: usize, right: usize) -> Vec<u8> {
+    bytes(&format!("T|1 {}T|1 {}J|F|0|1 C|0|0|=|1|0", "D|1 ".repeat(left), "D|2 ".repeat(right)))
+}
+
 /// Two tables of eight columns and one row, all columns linked: 15 lines and 49 derived conditions. Where there are to
 /// be more lines, the first stands again.
 pub fn linked_columns(lines: usize) -> Vec<u8> {
@@ -66,6 +76,7 @@ pub fn refused() -> Vec<(u8, Vec<u8>)> {
         (2, b"T\t1\nD\t1".to_vec()),
         (2, b"\xff\n".to_vec()),
         (2, long(16385)),
+        (2, bytes("T|1 D|1 T|1 D|1 T|1 D|1 J|F|0|1 C|0|0|=|1|0 J|L|3|2 C|0|0|=|2|0")),
         (3, vec![]),
         (3, bytes(&format!("T|1 {}", "D|0 ".repeat(257)))),
         (4, bytes("T|2 D|1")),
@@ -80,6 +91,7 @@ pub fn refused() -> Vec<(u8, Vec<u8>)> {
         (6, linked_columns(33)),
         (9, bytes("T|1 D|1 T|1 D|1 T|1 D|1 J|L|0|1 C|0|0|=|1|0 J|I|3|2 C|0|0|=|2|0 P|0|1")),
         (11, all_match(16, 17)),
+        (11, no_partners(156, 101)),
     ]
 }
 

@@ -2,19 +2,24 @@
 
 use hashjoin::chains::chains;
 use hashjoin::generate::OPERATORS;
+use hashjoin::join_tree::{as_left_outer, join_tree};
 use hashjoin::key_columns::key_columns;
-use hashjoin::{BLANKING, CONDITIONS, INNER, OUTER, ROWS, Rows, Step, Tally, WRITTEN};
+use hashjoin::lent::{LEAST, Lent};
+use hashjoin::{BEST_MATCH, BLANKING, CONDITIONS, INNER, OUTER, ROWS, Rows, STEPS, Step, Tally, WRITTEN};
 use rumbethola::lent as library;
 
 const QUESTIONS: usize = 13;
-/// How often each operator must come out in each way; a damaged line has another operator now and then.
+/// How often each operator must come out in each way, and how often question 11 must turn a report down for what a full
+/// outer join adds; a damaged line has another operator now and then.
 const FEWEST: u64 = 16;
-/// Each kind of key column and of derived conditions must occur in answers once for so many answers, and each kind of
-/// key column in refusals by question 12 once for so many of these; and there must be a refusal by 12, and one by 13,
-/// for so many answers. Faults and damage make some of each kind.
+/// Each kind of key column, of derived conditions and of outer joins must occur in answers once for so many answers,
+/// and each kind of key column in refusals by question 12 once for so many of these; and there must be a refusal by 12,
+/// and one by 13, for so many answers. Faults and damage make some of each kind.
 const ANSWERS_FOR_A_KIND: u64 = 50;
 const REFUSALS_FOR_A_KIND: u64 = 6;
 const ANSWERS_FOR_A_REFUSAL: u64 = 100;
+/// Each kind of full outer joins must occur in answers once for so many full outer joins.
+const FULL_OUTER_FOR_A_KIND: u64 = 8;
 /// Numbers that no question has.
 pub const NOT_USED: [usize; 2] = [8, 10];
 
@@ -288,6 +293,112 @@ impl Derived {
         rare(&kinds, self.answers, ANSWERS_FOR_A_KIND)
             || rare(&[self.refusals], self.answers, ANSWERS_FOR_A_REFUSAL)
             || self.one_more == 0
+    }
+}
+
+/// What texts have of right outer and full outer joins.
+#[derive(Default)]
+pub struct BothSides {
+    /// In answers of the report: of full outer joins with rows added, as many rows as there can be; and with as many
+    /// steps as there can be.
+    most_rows: u64,
+    most_steps: u64,
+    /// Reports that question 11 turned down for one row more than there may be, with those that are added.
+    one_more: u64,
+    /// Answers of the report to texts made by chance; those with a right outer join, with and without P lines; and
+    /// those of a full outer join.
+    answers: u64,
+    right_outer: [u64; 2],
+    full_outer: u64,
+    /// Of full outer joins: with no row added, with rows added; with and without P lines; behind best match and behind
+    /// a pair; with a left side without rows, and with a right side without; with a right side that is a join; and
+    /// those in which an added row does not stand behind all others.
+    kinds: [u64; 10],
+    /// Reports made by chance that question 11 turned down and would not with kind L: by the right side's joins, by the
+    /// total; and direct readings.
+    refused: [u64; 3],
+}
+
+impl BothSides {
+    /// Forgets what is counted of texts made by chance alone.
+    pub fn begin_chance(&mut self) {
+        let BothSides { most_rows, most_steps, one_more, .. } = *self;
+        *self = BothSides { most_rows, most_steps, one_more, ..Default::default() };
+    }
+
+    pub fn count(&mut self, text: &[u8], rows: &Rows, steps: &[Step]) {
+        let has = |start: &str| text.split(|&byte| byte == b'\n').any(|line| line.starts_with(start.as_bytes()));
+        self.answers += 1;
+        let ordered = has("P");
+        self.right_outer[usize::from(ordered)] += u64::from(has("J\tR"));
+        let Some(added) = rows.added else { return };
+        self.full_outer += 1;
+        self.most_rows += u64::from(added > 0 && rows.rows == ROWS);
+        self.most_steps += u64::from(steps[STEPS - 1].kind == BEST_MATCH);
+        let tree = join_tree(text);
+        let best_match = steps.iter().any(|step| step.kind == BEST_MATCH);
+        let [left, right] = tree.sides();
+        let moved = tree
+            .rows()
+            .is_some_and(|rows| rows.iter().skip_while(|row| !tree.alone_has(row)).any(|row| !tree.alone_has(row)));
+        let kinds = [
+            added == 0,
+            added > 0,
+            ordered,
+            !ordered,
+            best_match,
+            !best_match,
+            left.is_some_and(Vec::is_empty),
+            right.is_some_and(Vec::is_empty),
+            tree.right_side_is_a_join(),
+            moved,
+        ];
+        self.kinds.iter_mut().zip(kinds).for_each(|(count, kind)| *count += u64::from(kind));
+    }
+
+    /// A report that question 11 turned down.
+    pub fn count_refusal(&mut self, text: &[u8]) {
+        let tree = join_tree(text);
+        if !tree.full_outer() || Lent::marked(LEAST).report(&as_left_outer(text)).is_err() {
+            return;
+        }
+        let by_total = tree.sides()[1].is_some();
+        self.refused[usize::from(by_total)] += 1;
+        self.one_more += u64::from(by_total && tree.total() == Some(ROWS + 1));
+    }
+
+    /// A direct reading that question 11 turned down.
+    pub fn count_direct_refusal(&mut self, text: &[u8]) {
+        let full_outer = join_tree(text).full_outer();
+        self.refused[2] += u64::from(full_outer && Lent::marked(LEAST).direct(&as_left_outer(text)).is_ok());
+    }
+
+    pub fn print(&self) {
+        let [unordered, ordered] = self.right_outer;
+        let [none, some, pairs, no_pairs, best_match, no_best_match, left_empty, right_empty, join, moved] = self.kinds;
+        let [right_side, total, direct] = self.refused;
+        println!(
+            "right outer joins made by chance: in {} of {} answers, {ordered} of them with P lines",
+            unordered + ordered,
+            self.answers
+        );
+        println!(
+            "full outer joins made by chance: in {} of {} answers; no row added {none}, some {some}; with P lines \
+             {pairs}, without {no_pairs}; behind best match {best_match}, behind a pair {no_best_match}; without left \
+             rows {left_empty}, without right rows {right_empty}; the right side a join {join}; an added row before \
+             others {moved}; refused by 11, and not with kind L: for the right side {right_side}, for the total \
+             {total}, direct readings {direct}; in all answers of {ROWS} rows {}, of {STEPS} steps {}, refusals of a row \
+             more {}",
+            self.full_outer, self.answers, self.most_rows, self.most_steps, self.one_more
+        );
+    }
+
+    pub fn lacks(&self) -> bool {
+        [self.most_rows, self.most_steps, self.one_more].contains(&0)
+            || rare(&self.right_outer, self.answers, ANSWERS_FOR_A_KIND)
+            || rare(&[self.full_outer], self.answers, ANSWERS_FOR_A_KIND)
+            || rare(&self.kinds, self.full_outer, FULL_OUTER_FOR_A_KIND)
+            || self.refused.iter().any(|&count| count < FEWEST)
     }
 }
 
