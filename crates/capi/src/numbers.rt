@@ -154,7 +154,7 @@ fn flag(b: bool) -> u64
 // Whether the last join is a full outer one, and how many rows were added.
 fn put_added(buffer: &mut [u64], at: usize, full_outer: bool, added: u64) -> usize
     requires { ⌜ at + 2 ≤ length (now buffer) ⌝ }
-    ensures { λ r. ⌜ Written (now (buffer .entry)) at (flagNumber full_outer ∷ added ∷ []) 2 (now (buffer .exit)) r ⌝ }
+    ensures { λ r. ⌜ Written (now (buffer .entry)) at (flagNumber «full_outer» ∷ added ∷ []) 2 (now (buffer .exit)) r ⌝ }
 {
     let yes = flag(full_outer);
     let next = put(buffer, at, yes);

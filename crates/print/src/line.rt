@@ -111,7 +111,7 @@ pub(crate) fn write_step(out: &mut [u8], at: usize, s: Step) -> usize
 // The line of the rows that were added, where the last join is a full outer one; else there is none.
 pub(crate) fn write_added(out: &mut [u8], at: usize, full_outer: bool, added: u64) -> usize
     requires { ⌜ at + addedRoom ≤ length (now out) ⌝ }
-    ensures { λ r. ⌜ Written (now (out .entry)) at (printAdded (addedIn full_outer added)) addedRoom (now (out .exit)) r ⌝ }
+    ensures { λ r. ⌜ Written (now (out .entry)) at (printAdded (addedIn «full_outer» added)) addedRoom (now (out .exit)) r ⌝ }
 {
     if !full_outer {
         return at;

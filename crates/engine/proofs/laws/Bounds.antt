@@ -136,7 +136,7 @@ ended-each r n rows w v = go (queryOf r .fullOuter)
   where
     go : (b : Bool) → Wide n (if b then withAdded (database r) (joinTree (queryOf r)) rows else rows)
     go true row m = ⊎-elim (w row) (λ h. v row (keep-elim _ (rowsOf (database r) (rightSide (joinTree (queryOf r)))) h .0)) (append-elim rows (sort-elim before _ m))
-    go false = w
+    go false row m = w row m
 
 module _ (r : Report) (well : WellRead (queryOf r)) (accepted : firstNo sharedQuestions r ≡ none) where
   abbrev q : Query

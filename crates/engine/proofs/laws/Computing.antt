@@ -20,7 +20,7 @@ use Rattle.vocabulary.specs.Asking.{firstNo, about}
 use Rattle.text.specs.Bytes.{bytes, tab, lineFeed, sameBytes, cut, split, closed}
 use Rattle.text.specs.Numbers.{digit, decimal, valueOf, natural, small, positive, negative, number, ifMade, constant, cell}
 use Rattle.text.specs.Lines.{kindOf, sidesRead, isFullOuter, field, oneOf, end, both, readAll, word, numberField, kindField, operatorField, cellFields, formT, formD, formJ, formC, formK, formP, firstOf, inPart, lineBy, lineOf, linesOf, optional}
-use Rattle.text.specs.Reading.{beforeAll, opens, follows, next, placed, firstRows, tablesOf, firstConditions, joinsOf, conditionsOf, pairsOf, reportOf, ifPlaced, textLines, readReport}
+use Rattle.text.specs.Reading.{beforeAll, opens, follows, opensJoin, staysInJoin, next, placed, firstRows, tablesOf, firstConditions, joinsOf, conditionsOf, pairsOf, fullOuterFrom, reportOf, ifPlaced, textLines, readReport}
 use Rattle.text.specs.LineParts.{also, picked, ofTables, ofJoins, ofOrder}
 use Rattle.text.specs.TableQuestions.{cellsInRows, cellsInTables, tableFits, question3, question4, tableQuestions}
 use Rattle.text.specs.Print.{digitsOf, printNumber, printFields, bitNumbers, printEntry, printSets, printTally, printTallies, kindLetter, printStep, printAdded, printRow, printRefusal}
@@ -38,7 +38,7 @@ use Rattle.engine.specs.Former.{formerSteps, formerRows, formerQuestions
 use Rattle.engine.specs.Programs.{printReport, printDirect, reportProgram, directProgram}
 
 unfoldable pub computing : Unit {0}
-unfolding flatMap zipWith blankCell lowestCell highestCell cellOf eqZ isBlank columnOf orderingOf never operators says truthOf isTrue isFalse isUnknown holds blankRow cellIn sideIn truthIn trueIn sideNames namesOf ownCell cellsIn range all any keep count orElse distinct insert sort has single over merge same before ordered whollyBlank within dominated bestMatch tablesUnder outerProduct allTrue matches joined rowsOf nullify nullifyAll finished planRows cutFrom cutRow added rightSide partnered unmatched fullOuterRows wholeRows queryOf tableCount tableNumbers conditionNumbers noCondition conditionAt namedBy joinPairs orderOr joinOrder grown tablesAt tablesOfPair nodesOf joinNodes orderNodes treeAt treeOf treesOf lastTree joinTrees joinTree setOf blanksLeft blanksRight taken isBlanked setAfter setsAfter setsBy emptySets blankingSets sameColumn hasColumn sideLink linkOf linksOf touches joinGroups groupsOf chained states statedBefore allColumns columnPairs derivedLinks equalOf withDerived implied closeSet closeSets fullQuery fullReport closedSets between crosses inEvery usable paired usableAt allIn planned plannedJoins planTrees planTree pairSets appliedSets missing asks blankings bitsOf kindNumber pairStep blankingStep bestMatchStep zeroStep stepsOf lowerSides sidesOf noneTwice wellBuilt question5 noneOrBuilt question9 columnExists sideExists conditionFits joinsFit question6 question7 question13 bytes tab lineFeed sameBytes cut split closed digit decimal valueOf natural small positive negative number ifMade constant cell kindOf sidesRead isFullOuter field optional oneOf end both readAll word numberField kindField operatorField cellFields formT formD formJ formC formK formP firstOf inPart lineBy lineOf linesOf beforeAll opens follows next placed also picked ofTables ofJoins ofOrder firstRows tablesOf firstConditions joinsOf conditionsOf pairsOf reportOf ifPlaced textLines readReport cellsInRows cellsInTables tableFits question3 question4 digitsOf printNumber printFields hasBit bitNumbers printEntry printSets printTally printTallies kindLetter printStep printAdded printRow printRefusal databaseOf tableAt rowCountIn cellsOf database tallyOf pairTruths columnCells sideCells conditionTally tallies withinTree withAdded results withinLimit totalWithin rightWithin addedTo ended directRows question11Direct rowsBy addedCount withinBy countsBy runRows reportRows reportAdded pairCounts reportSteps question11 firstNo about tableQuestions cellsOfColumn allDiffer areKey keyHolds question12 keyQuestions treeQuestions queryQuestions orderQuestions sharedQuestions questionsOfReport questionsOfDirect reportQuestions directQuestions outcomeFor outcomeBy planAnswer reportAnswer reportOutcome directOutcome printReport printDirect reportProgram directProgram
+unfolding flatMap zipWith blankCell lowestCell highestCell cellOf eqZ isBlank columnOf orderingOf never operators says truthOf isTrue isFalse isUnknown holds blankRow cellIn sideIn truthIn trueIn sideNames namesOf ownCell cellsIn range all any keep count orElse distinct insert sort has single over merge same before ordered whollyBlank within dominated bestMatch tablesUnder outerProduct allTrue matches joined rowsOf nullify nullifyAll finished planRows cutFrom cutRow added rightSide partnered unmatched fullOuterRows wholeRows queryOf tableCount tableNumbers conditionNumbers noCondition conditionAt namedBy joinPairs orderOr joinOrder grown tablesAt tablesOfPair nodesOf joinNodes orderNodes treeAt treeOf treesOf lastTree joinTrees joinTree setOf blanksLeft blanksRight taken isBlanked setAfter setsAfter setsBy emptySets blankingSets sameColumn hasColumn sideLink linkOf linksOf touches joinGroups groupsOf chained states statedBefore allColumns columnPairs derivedLinks equalOf withDerived implied closeSet closeSets fullQuery fullReport closedSets between crosses inEvery usable paired usableAt allIn planned plannedJoins planTrees planTree pairSets appliedSets missing asks blankings bitsOf kindNumber pairStep blankingStep bestMatchStep zeroStep stepsOf lowerSides sidesOf noneTwice wellBuilt question5 noneOrBuilt question9 columnExists sideExists conditionFits joinsFit question6 question7 question13 bytes tab lineFeed sameBytes cut split closed digit decimal valueOf natural small positive negative number ifMade constant cell kindOf sidesRead isFullOuter field optional oneOf end both readAll word numberField kindField operatorField cellFields formT formD formJ formC formK formP firstOf inPart lineBy lineOf linesOf beforeAll opens follows opensJoin staysInJoin next placed also picked ofTables ofJoins ofOrder firstRows tablesOf firstConditions joinsOf conditionsOf pairsOf fullOuterFrom reportOf ifPlaced textLines readReport cellsInRows cellsInTables tableFits question3 question4 digitsOf printNumber printFields hasBit bitNumbers printEntry printSets printTally printTallies kindLetter printStep printAdded printRow printRefusal databaseOf tableAt rowCountIn cellsOf database tallyOf pairTruths columnCells sideCells conditionTally tallies withinTree withAdded results withinLimit totalWithin rightWithin addedTo ended directRows question11Direct rowsBy addedCount withinBy countsBy runRows reportRows reportAdded pairCounts reportSteps question11 firstNo about tableQuestions cellsOfColumn allDiffer areKey keyHolds question12 keyQuestions treeQuestions queryQuestions orderQuestions sharedQuestions questionsOfReport questionsOfDirect reportQuestions directQuestions outcomeFor outcomeBy planAnswer reportAnswer reportOutcome directOutcome printReport printDirect reportProgram directProgram
 computing = tt
 
 -- and one that opens what document 02, items 2 and 5, replaced or took out

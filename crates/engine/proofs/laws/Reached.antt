@@ -190,7 +190,7 @@ module _ {s : StoredQuery} {cells : List ℤ} {r : Report} (ready : Ready s cell
       go true row m = ⊎-elim (w row)
           (λ h. rows-wide k (ready .conditions) small (rightSide (joinTree q)) (side-shaped k (ready .conditions) small (joinTree q) tree) row (keep-elim _ (rowsOf (database r) (rightSide (joinTree q))) h .0))
           (append-elim rows (sort-elim before _ m))
-      go false = w
+      go false row m = w row m
 
   direct-wide : Wide (tableCount q) (directRows r)
   direct-wide = subst (Wide (tableCount q)) whole (ended-wide treeRows tree-wide)

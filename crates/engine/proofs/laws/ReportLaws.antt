@@ -318,7 +318,7 @@ module _ (bs : Bytes) {s : StoredQuery} {cells : List ℤ} {said : Report} (read
     abbrev planRowsIn : List Row
     planRowsIn = finished W (blankings (groundOf q)) (rowsOf W (planTree (groundOf q)))
 
-    module _ (w w′ : List ℕ) {x : Concluded} (rows : List Row) (Found : Type 0) (counts : List ℕ) (fin : Finished) (long : length counts ≡ areas) where
+    module _ (w w′ : List ℕ) (rows : List Row) (counts : List ℕ) (long : length counts ≡ areas) where
       -- the end of the run, by what it found
       module _ (few : (i : ℕ) → i < n - 1 → getD counts i 0 ≤ mostRows) (each : (i : ℕ) → i < n - 1 → getD counts i 0 ≡ length (rowsOf W (treeAt trees (n + i))))
           (same : rows ≡ finished W (blankings (groundOf q)) (rowsOf W (treeAt trees (n + (n - 1) - 1)))) where
@@ -337,7 +337,7 @@ module _ (bs : Bytes) {s : StoredQuery} {cells : List ℤ} {said : Report} (read
           known : (endWithin ≡ true) × (m ≡ length (reportRows r))
           known = rows-of endWithin (sym answer-is ∙ a)
 
-          pub ran-written : RowsWritten (endedRows W (q .fullOuter) (joinTree q) rows) n w w′ m
+          pub ran-written : {x : Concluded} → RowsWritten (endedRows W (q .fullOuter) (joinTree q) rows) n w w′ m
               → x ≡ handedBy (factsIn s (setWords (closedSets (queryIn s))) cells (m - length rows)) q n counts (J.Rows m) → Reported (reportOutcome bs) w w′ x
           unfolding concludedFor resultAfter reportAnswer planAnswer written flatRows
           ran-written t e =
@@ -349,7 +349,7 @@ module _ (bs : Bytes) {s : StoredQuery} {cells : List ℤ} {said : Report} (read
               (e ∙ rw (facts-all (m - length rows) d, c, steps-all counts long few each)) (t .numbers ∙ rw v)
 
         -- the right side or the total is not
-        pub ran-over : endAnswer W (q .fullOuter) (joinTree q) rows ≡ J.TooMany → w′ ≡ w → x ≡ turnedDown 11 → Reported (reportOutcome bs) w w′ x
+        pub ran-over : {x : Concluded} → endAnswer W (q .fullOuter) (joinTree q) rows ≡ J.TooMany → w′ ≡ w → x ≡ turnedDown 11 → Reported (reportOutcome bs) w w′ x
         unfolding concludedFor resultAfter
         ran-over a e f = reported (refused 11) (outcome-11 (eleven-parts ∙ rw (none-of endWithin (sym answer-is ∙ a)) (and-false pairsWithin))) f e
           where
@@ -364,17 +364,17 @@ module _ (bs : Bytes) {s : StoredQuery} {cells : List ℤ} {said : Report} (read
         → x ≡ handedBy (factsIn s (setWords (closedSets (queryIn s))) cells (fin .added)) q n (state .counts) (fin .joined) → Reported (reportOutcome bs) w w′ x
     unfolding concludedFor resultAfter
     ran-gives w w′ state work _ wide long (ran g few each same) (endWritten f m a t) e =
-        ran-written w w′ (endRows s state work) (Findable s state work) (state .counts) (record { joined = J.Rows m; added = 0 }) long few each same m
+        ran-written w w′ (endRows s state work) (state .counts) long few each same m
         (by-tree (λ (b : Bool) (E : Tree ℕ). endAnswer W b E (endRows s state work) ≡ J.Rows m) a)
         (subst (λ (i : ℕ). RowsWritten (endedRows W (q .fullOuter) (joinTree q) (endRows s state work)) i w w′ m) (k .table-count)
         (by-tree (λ (b : Bool) (E : Tree ℕ). RowsWritten (endedRows W b E (endRows s state work)) (s .«table_count») w w′ m) t)) e
     ran-gives w w′ state work _ wide long (ran g few each same) (endOver f a v) e =
-        ran-over w w′ (endRows s state work) (Findable s state work) (state .counts) (record { joined = J.TooMany; added = 0 }) long few each same
+        ran-over w w′ (endRows s state work) (state .counts) long few each same
         (by-tree (λ (b : Bool) (E : Tree ℕ). endAnswer W b E (endRows s state work) ≡ J.TooMany) a) v e
-    ran-gives w w′ state work _ wide long (ran g few each same) (endNone none v) e = absurd (none g wide)
-    ran-gives w w′ state work _ wide long (over i h o none) (endWritten f m a t) e = absurd (none f)
-    ran-gives w w′ state work _ wide long (over i h o none) (endOver f a v) e = absurd (none f)
-    ran-gives w w′ state work _ wide long (over i h o none) (endNone never v) e =
+    ran-gives w w′ state work _ wide long (ran g few each same) (endNone never v) e = absurd (never g wide)
+    ran-gives w w′ state work _ wide long (over i h o unread) (endWritten f m a t) e = absurd (unread f)
+    ran-gives w w′ state work _ wide long (over i h o unread) (endOver f a v) e = absurd (unread f)
+    ran-gives w w′ state work _ wide long (over i h o unread) (endNone never v) e =
         reported (refused 11) (outcome-11 (eleven-no i (omega (arith, pairs, h)) o)) e v
 
     pub report-ran : (w w′ : List ℕ) {x : Concluded} → StepsRun cells s w w′ x → Reported (reportOutcome bs) w w′ x

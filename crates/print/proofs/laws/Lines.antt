@@ -1,4 +1,5 @@
 -- The lines of the print, as the code appends them field after field. Assumes nothing.
+use mathlib.Core.Bool.{Bool, true, false}
 use mathlib.Core.Path.{_≡_, ap, refl, _∙_}
 use mathlib.Core.List.{List, [], _∷_, _++_, map, flatMap, append-assoc}
 use Prim.Native.Nat.{ℕ, _≤_, _<_, zero, suc}
@@ -10,9 +11,10 @@ use Rattle.rows.specs.Lists.{range}
 use Rattle.vocabulary.specs.declared.facts.Tally.{Tally}
 use Rattle.vocabulary.specs.declared.step.Step.{Step}
 use Rattle.text.specs.Bytes.{lineFeed, Bytes, bytes, tab}
-use Rattle.text.specs.Print.{printFields, printNumber, bitNumbers, printEntry, printRow, printRefusal, kindLetter, printStep, printSets, printTally, printTallies}
+use Rattle.text.specs.Print.{printFields, printNumber, bitNumbers, printEntry, printRow, printRefusal, kindLetter, printStep, printSets, printTally, printTallies, printAdded}
 use Rattle.print.proofs.laws.Loops.{upTo, numbered, upTo-numbered, upTo-range}
 use Rattle.print.specs.inner.Fields.{printedNumber, entryField, printedField}
+use Rattle.print.specs.inner.Printed.{addedIn}
 use Rattle.print.proofs.laws.FieldsLaws.{fields-then}
 
 -- the fields of numbers, and the line feed

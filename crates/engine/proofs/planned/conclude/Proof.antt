@@ -1,4 +1,8 @@
 -- `engine::planned::conclude` meets its contract: what is handed over, then lent memory cleared. Assumes nothing.
+use mathlib.Core.Path.{_≡_, ap, _∙_}
+use Prim.Native.Nat.{ℕ}
+use lib.ListN.{length, replicate}
+use denote.Ref.{now}
 use borrow.Author.Needs.{needs}
 use Rattle.engine.proofs.planned.conclude.Statement.{statement}
 use Rattle.engine.proofs.planned.conclude.Tie as tie
@@ -25,8 +29,9 @@ returns : tie.Need-returns
 returns c =
     let k = c .before in
     let w = k .before .before .before .before in
-    let h = w .before .before .before .before in
-    record { ends = h .hand-over .ensures; cells = k .clear-cells .ensures; work = w .clear-work .ensures }
+    let h = w .before .before .before .before .before .before in
+    let l : length (h .hand-over .last .1 .0) ≡ length (now (h .before .before .before .before .before .before .args .work)) = search needs in
+    record { ends = h .hand-over .ensures; cells = k .clear-cells .ensures; work = w .clear-work .ensures ∙ ap (λ (n : ℕ). replicate n 0) l }
 
 pub conclude-spec : {M : Type 1} → statement M
 conclude-spec =

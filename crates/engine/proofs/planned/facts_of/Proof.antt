@@ -10,8 +10,8 @@ cast-count c = search needs
 tallies-requires : tie.Need-tallies-requires
 tallies-requires c κs = search needs
 
-cast-t11 : tie.Need-cast-t11
-cast-t11 c = search needs
+cast-t12 : tie.Need-cast-t12
+cast-t12 c = search needs
 
 returns : tie.Need-returns
 unfolding factsIn
@@ -26,7 +26,9 @@ returns c =
       holds = e .holds-are i;
       fails = e .fails-are i;
       unknown = e .unknown-are i;
+      «full_outer» = a .q .«full_outer»;
+      added = a .added;
     }
 
 pub facts-of-spec : {M : Type 1} → statement M
-facts-of-spec = tie.close (tie.spec cast-count tallies-requires cast-t11 returns)
+facts-of-spec = tie.close (tie.spec cast-count tallies-requires cast-t12 returns)

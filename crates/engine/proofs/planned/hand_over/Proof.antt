@@ -22,19 +22,22 @@ sub-pairs c =
     search needs
 
 finish-run-requires : tie.Need-finish-run-requires
-finish-run-requires c κs = search needs
+finish-run-requires c κs =
+    let i = c .before .before .before .before .before .before .before in
+    let h = i .before .before .before .before .pre (i .if1 .left) in
+    (h .readable, h .joined)
 
 enum-known-found : tie.Need-enum-known-found
 enum-known-found c = search needs
 
 facts-of-requires : tie.Need-facts-of-requires
 facts-of-requires c κs =
-    let i = c .before .before .before .before .before .before .before .before .before .before .before .before in
+    let i = c .before .before .before .before .before .before .before .before .before .before .before .before .before .before .before in
     i .before .before .before .before .pre (i .if1 .left)
 
 with-counts-requires : tie.Need-with-counts-requires
 with-counts-requires c κs =
-    let i = c .before .before .before .before .before .before .before .before .before .before .before .before .before in
+    let i = c .before .before .before .before .before .before .before .before .before .before .before .before .before .before .before .before in
     let h = i .before .before .before .before .pre (i .if1 .left) .tables in
     search needs
 
@@ -50,23 +53,29 @@ turned-down-requires-2 c κs = search needs
 same-length : tie.Need-same-length
 same-length c = search needs
 
+same-length-2 : tie.Need-same-length-2
+same-length-2 c = search needs
+
 returns-2 : tie.Need-returns-2
 returns-2 c =
     let n = c .before in
     let g = n .before in
-    let f = g .before .before .before .before .before .before in
-    let i = f .before .before .before .before .before .before .before in
+    let f = g .before .before .before .before .before .before .before .before in
+    let i = f .before .before .before .before .before .before .before .before in
     let s = i .before .before .before .before in
     let l : length (s .args .r .counts) ≡ 8 = sym (length-map (s .args .r .counts) _) ∙ s .good .1 .1 .1 .1 .0 .1 .1 .1 .0 .1 .0 .1 in
     ends-rows (i .if1 .left) l (f .finish-run .ensures) _ (g .before .before .found .given .1) (c .answered .ensures) (g .facts-of .ensures) (n .with-counts .ensures)
 
-same-length-2 : tie.Need-same-length-2
-same-length-2 c = search needs
+same-length-3 : tie.Need-same-length-3
+same-length-3 c = search needs
+
+same-length-4 : tie.Need-same-length-4
+same-length-4 c = search needs
 
 returns-3 : tie.Need-returns-3
 returns-3 c =
-    let f = c .before .before .before .before .before in
-    let i = f .before .before .before .before .before .before .before in
+    let f = c .before .before .before .before .before .before .before in
+    let i = f .before .before .before .before .before .before .before .before in
     let s = i .before .before .before .before in
     let l : length (s .args .r .counts) ≡ 8 = sym (length-map (s .args .r .counts) _) ∙ s .good .1 .1 .1 .1 .0 .1 .1 .1 .0 .1 .0 .1 in
     ends-over (i .if1 .left) l (f .finish-run .ensures) (c .before .enum-told .given .1) (c .turned-down2 .ensures)
@@ -87,6 +96,8 @@ hand-over-spec =
     enum-told
     turned-down-requires-2
     same-length
-    returns-2
     same-length-2
+    returns-2
+    same-length-3
+    same-length-4
     returns-3)
