@@ -17,9 +17,6 @@ write-tallies-requires c κs = search needs
 write-steps-requires : tie.Need-write-steps-requires
 write-steps-requires c κs = search needs
 
-cast-write-added : tie.Need-cast-write-added
-cast-write-added c = search needs
-
 write-added-requires : tie.Need-write-added-requires
 write-added-requires c κs = search needs
 
@@ -34,7 +31,7 @@ unfolding reportBytes firstTallies
 returns c =
     let r = c .before .before in
     let f = r .before .before .before .before in
-    let s = f .before .before .before .before .before in
+    let s = f .before .before .before .before in
     let u = s .before .before .before .before in
     let t = u .before .before .before .before .before .before .before in
     let h = t .before .before .before .before .before .pre .0 in
@@ -44,4 +41,4 @@ returns c =
 pub write-report-spec : {M : Type 1} → statement M
 write-report-spec =
     tie.close
-    (tie.spec write-sets-requires write-tallies-requires write-steps-requires cast-write-added write-added-requires write-rows-requires same-length returns)
+    (tie.spec write-sets-requires write-tallies-requires write-steps-requires write-added-requires write-rows-requires same-length returns)
