@@ -34,7 +34,7 @@ report-short text = go (reportOutcome text) refl
     go : (o : Outcome ReportAnswer) → reportOutcome text ≡ o → length (printReport o) ≤ printRoom
     go (refused n) e = refusal-short n
     go (answered a) e =
-        let (b, s, u) = report-bounded text a e in
+        let (b, s, u, _) = report-bounded text a e in
         let l = report-room (factsOf a) (a .steps) (a .rows) (b .eight) u s (b .few) (λ row i. omega (arith, b .wide row i, b .eight)) in
         let k = rw (answer-printed a) at l in
         omega (arith, k)

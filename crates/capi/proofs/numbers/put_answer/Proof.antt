@@ -30,9 +30,6 @@ put-requires c κs = search needs
 put-tallies-requires : tie.Need-put-tallies-requires
 put-tallies-requires c κs = search needs
 
-cast-put-added : tie.Need-cast-put-added
-cast-put-added c = search needs
-
 put-added-requires : tie.Need-put-added-requires
 put-added-requires c κs = search needs
 
@@ -67,7 +64,6 @@ put-answer-spec =
     put-steps-requires
     put-requires
     put-tallies-requires
-    cast-put-added
     put-added-requires
     same-length
     returns)
