@@ -16,7 +16,7 @@
      for its type; a count is the count of numbers, not of bytes;
    - no two of the buffers of one call overlap, and none overlaps the text;
    - nothing else reads or writes the buffers, or writes the text, during the call;
-   - the thread has RUMBETHOLA_STACK bytes of stack left, 128 KiB. Each routine takes less than 64 KiB of them. This
+   - the thread has RUMBETHOLA_STACK bytes of stack left, 128 KiB. Each routine takes less than 88 KiB of them. This
      is measured (tests/capi/check), not proved. A thread that is made with less needs pthread_attr_setstacksize.
    A slice of the proved routine is two arguments here, the pointer and the count of its numbers, in this order.
    The routines keep nothing between calls, use no heap and no file, and call only memcpy and memset, so that calls

@@ -11,7 +11,7 @@
 #include <stdio.h>
 #include <string.h>
 
-enum { STACK = 1 << 20, KIB = 1024, MOST = 64 * KIB, MARK = 0xa5, ROUTINES = 4 };
+enum { STACK = 1 << 20, KIB = 1024, MOST = 88 * KIB, MARK = 0xa5, ROUTINES = 4 };
 
 static _Alignas(4096) unsigned char stack[STACK];
 static size_t from;

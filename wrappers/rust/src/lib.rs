@@ -19,7 +19,7 @@
 //!
 //! # Stack
 //!
-//! A call needs [`STACK`] bytes of the thread's stack, 128 KiB. Each routine takes less than 64 KiB of them; the rest is
+//! A call needs [`STACK`] bytes of the thread's stack, 128 KiB. Each routine takes less than 88 KiB of them; the rest is
 //! for this wrapper and to spare. That is measured (`tests/capi/check`), not proved. Where the stack is too small the process is ended, as by any stack overflow.
 //!
 //! The main thread and the threads of [`std::thread::spawn`] have enough (8 MiB and 2 MiB, where nobody sets
