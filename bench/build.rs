@@ -1,4 +1,4 @@
-//! Links the proved library, which `rt staticlib capi` writes, and SQLite.
+//! Links the proved library, which `tests/capi/build-library` writes, and SQLite.
 fn main() {
     let top = std::path::Path::new(env!("CARGO_MANIFEST_DIR")).join("..");
     println!("cargo:rustc-link-search=native={}", top.join("target/staticlib").display());

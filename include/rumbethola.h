@@ -1,6 +1,6 @@
 /* Rumbethola: an engine that joins the tables of a report by inner and outer joins in any joining order.
 
-   The routines of target/staticlib/libcapi.a, which `rt staticlib capi` builds, on x86-64 Linux. The product's
+   The routines of target/staticlib/libcapi.a, which `tests/capi/build-library` builds, on x86-64 Linux. The product's
    specification is docs/SPECIFICATION.md, from the document "Joining strain reports in any order", document 01, and
    the requests that came later, document 02; docs/FORMAT.md has the report text, the print and the refusals.
 

@@ -5,7 +5,7 @@
 
    To build it, at the top of the repository:
 
-       rt staticlib capi
+       tests/capi/build-library
        gcc -O2 -Iinclude examples/c/rows.c target/staticlib/libcapi.a -o rows
 
    All are written as in the print: U and, behind a tab each, a condition and how often it is true, false and unknown,

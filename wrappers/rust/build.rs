@@ -1,5 +1,5 @@
 //! Links libcapi.a from the directory that RUMBETHOLA_LIB names, or from target/staticlib of the repository, where
-//! `rt staticlib capi` writes it. Where the file is not there, the build ends with a line that says how to make it.
+//! `tests/capi/build-library` writes it. Where the file is not there, the build ends with a line that says how to make it.
 
 use std::env::var_os;
 use std::path::PathBuf;
@@ -13,7 +13,7 @@ fn main() {
     println!("cargo::rerun-if-changed={}", library.display());
     if !library.is_file() {
         println!(
-            "cargo::error=The library {} is not there. Run `rt staticlib capi` at the top of the repository, which \
+            "cargo::error=The library {} is not there. Run `tests/capi/build-library` at the top of the repository, which \
              builds it, or set RUMBETHOLA_LIB to the directory that has it.",
             library.display()
         );

@@ -5,7 +5,7 @@
 //!
 //! To build and run it, at the top of the repository:
 //!
-//!     rt staticlib capi
+//!     tests/capi/build-library
 //!     cargo run --release --manifest-path examples/rust/Cargo.toml -- samples/week.in
 //!
 //! All are written as in the print: U and, behind a tab each, a condition and how often it is true, false and unknown,
