@@ -4,7 +4,7 @@
    specification is docs/SPECIFICATION.md, from the document "Joining strain reports in any order", document 01, and
    the requests that came later, document 02; docs/FORMAT.md has the report text, the print and the refusals.
 
-   Proved (crates/capi, with the crates under it): every routine ends, touches no memory outside the lengths that it
+   Proved (crates/capi_c, with the crates under it): every routine ends, touches no memory outside the lengths that it
    is given, and for any contents and lengths returns and leaves in all lent memory what a definition says. The
    definitions are report_entry, direct_entry, print_report_entry and print_direct_entry in crates/capi/specs/Entries.antt;
    the comments below say the same in words.
