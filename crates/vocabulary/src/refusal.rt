@@ -1,6 +1,6 @@
 // Why a call has no rows: the question that was answered no (specification 9.1).
 ghost use Rattle.std.specs.Prelude.{◌≡◌};
-ghost use Rattle.vocabulary.specs.Refusal.{question_of};
+ghost use Rattle.vocabulary.specs.Inner.Refusal.{question_of};
 
 // The question that said no. There is no question 8 and no question 10 (specification 9.10, 9.12).
 #[derive(Clone, Copy, Debug, PartialEq, Eq)]
